@@ -1,0 +1,3 @@
+mod rect;
+
+pub use rect::Rect;
