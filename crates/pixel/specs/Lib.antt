@@ -1,0 +1,4 @@
+pub mod Rounding
+pub mod Channel
+pub mod Index
+pub mod Premultiplied
