@@ -7,9 +7,9 @@ use mathlib.Core.List.{List, [], _∷_}
 use lib.Dec.{leb}
 use lib.ListN.{getD}
 use Rattle.std.proofs.shelf.Tests.{and-parts, and-from, leb-true, le-leb}
-use Rattle.pixel.specs.Channel.{blended, dimmed, Colour}
+use Rattle.pixel.specs.Channel.{blended}
 use Rattle.pixel.specs.Premultiplied.{alpha, red, green, blue, argb, laid, premultiplied, unclamped}
-use Rattle.pixel.proofs.Blending.{shows, stays}
+use Rattle.pixel.proofs.Blending.{shows, stays, Colour}
 
 module _ (a r g b : ℕ) (ra : r ≤ 255) (ga : g ≤ 255) (ba : b ≤ 255) where
   pub alpha-argb : alpha (argb a r g b) ≡ a
@@ -66,20 +66,3 @@ laid-clear d h =
     let u = shows (green d) (omega arith) in
     let v = shows (blue d) (omega arith) in
     rw (p, q, u, v) (argb-channels d)
-
--- the bytes of a pixel from the top down are its channels
-abbrev pub bytes : ℕ → List ℕ
-bytes p = alpha p % 256 ∷ red p ∷ green p ∷ blue p ∷ []
-
--- laying byte by byte is laying channel by channel
-module _ (s d : ℕ) (ss ds : List ℕ) (e : ss ≡ bytes s) (f : ds ≡ bytes d) where
-  pub laid-bytes : s < 4294967296 → d < 4294967296 → (a r g b : ℕ)
-      → a ≡ blended (getD ss 0 0) (getD ds 0 0) (getD ss 0 0)
-      → r ≡ blended (getD ss 1 0) (getD ds 1 0) (getD ss 0 0)
-      → g ≡ blended (getD ss 2 0) (getD ds 2 0) (getD ss 0 0)
-      → b ≡ blended (getD ss 3 0) (getD ds 3 0) (getD ss 0 0)
-      → argb a r g b ≡ laid s d
-  laid-bytes h i a r g b ea er eg eb =
-      let u : alpha s % 256 ≡ alpha s = omega arith in
-      let v : alpha d % 256 ≡ alpha d = omega arith in
-      rw (ea, er, eg, eb, e, f, u, v)

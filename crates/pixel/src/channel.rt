@@ -1,7 +1,6 @@
 ghost use mathlib.Core.Path.{_≡_};
-ghost use Prim.Native.Nat.{ℕ};
 ghost use Rattle.pixel.specs.Rounding.{near as nearest, Rounds, Unique, Exact};
-ghost use Rattle.pixel.specs.Channel.{blended, Hides, Shows, Stays};
+ghost use Rattle.pixel.specs.Channel.{blended};
 
 // n / 255, rounded to the nearest whole number.
 pub fn near(n: u32) -> u32
@@ -15,10 +14,7 @@ pub fn near(n: u32) -> u32
 
 // One channel s, of a pixel with this alpha, laid over the channel d below it.
 pub fn lay_channel(s: u8, d: u8, alpha: u8) -> u8
-    ensures named { λ r. ⌜ r ≡ blended s d alpha ⌝ }
-    ensures hides { λ _. ⌜ Hides ⌝ }
-    ensures shows { λ _. ⌜ Shows ⌝ }
-    ensures stays { λ _. ⌜ Stays ⌝ }
+    ensures { λ r. ⌜ r ≡ blended s d alpha ⌝ }
 {
     let kept = near(u32::from(d) * (255 - u32::from(alpha)));
     (u32::from(s) + kept).min(255) as u8

@@ -1,19 +1,14 @@
-use borrow.Author.Needs.{needs}
 use native.Mathlib.Omega.{arith}
-use mathlib.Core.Path.{_≡_, _∙_, ap, sym, subst}
-use mathlib.Core.Bool.{true}
+use mathlib.Core.Path.{_∙_, ap}
 use Rattle.pixel.specs.Premultiplied.{laid, premultiplied}
-use Rattle.pixel.proofs.Packing.{laid-bytes, laid-clean, laid-clear}
+use Rattle.pixel.proofs.Packing.{laid-clean, laid-clear}
 use Rattle.pixel.proofs.premultiplied.PremultipliedPixel.over.Needs as need
 
 pub returns : need.returns
 returns c =
     let s = c .args .self in
     let d = c .args .below in
-    let e = laid-bytes s d (c .to-be-bytes .result) (c .to-be-bytes-2 .result) (c .to-be-bytes .ensures) (c .to-be-bytes-2 .ensures) (omega arith) (omega arith)
-    (c .lay-channel .result) (c .lay-channel-2 .result) (c .lay-channel-3 .result) (c .lay-channel-4 .result)
-    (c .lay-channel .ensures .named) (c .lay-channel-2 .ensures .named) (c .lay-channel-3 .ensures .named) (c .lay-channel-4 .ensures .named) in
-    let lays : c .from-be-bytes .result ≡ laid s d = omega (arith, e) in
+    let lays = c .lay-pixel .ensures in
     let clean = laid-clean s d (omega arith) (omega arith) in
     record {
       lays = lays;

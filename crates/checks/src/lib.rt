@@ -1,0 +1,3 @@
+// The worked examples, run on the real code.
+#[cfg(test)]
+mod pixels;
