@@ -9,5 +9,10 @@ pub struct Rect {
 
 impl Rect {
     // How a box that covers no pixel is told.
-    pub const NONE: Rect = Rect { left: 0, top: 0, right: 0, bottom: 0 };
+    pub const NONE: Rect = Rect {
+        left: 0,
+        top: 0,
+        right: 0,
+        bottom: 0,
+    };
 }

@@ -1,0 +1,11 @@
+pub mod Unique
+pub mod Tidy
+pub mod Push
+pub mod Exists
+pub mod Extend
+pub mod Woven
+pub mod Flat
+pub mod Rows
+pub mod Stacking
+pub mod Pairs
+pub mod Union
