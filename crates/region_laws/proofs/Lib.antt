@@ -9,3 +9,5 @@ pub mod Rows
 pub mod Stacking
 pub mod Pairs
 pub mod Union
+pub mod Smallest
+pub mod Strips
