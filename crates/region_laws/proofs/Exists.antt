@@ -63,7 +63,7 @@ module _ {V : Type 0} (same : V → V → Bool) (good : V → Bool) where
       go h (inr g) (inr u) = subst (λ (rs : List (Run V)). P rs) (sym (cond-false _ _ _ u)) (push-tidy 0 (runs same none f n) n (suc n) (f n) (h .0) (omega arith) (h .1) (omega arith) g, (let e = push-reach same (runs same none f n) n (suc n) (f n) in omega arith))
 
 -- each row is empty or good
-row-good : (w : ℕ) (p : ℕ → Bool) → w ≤ farthest → (sameRow [] (rowOf w p) ≡ true) ⊎ (goodRow (rowOf w p) ≡ true)
+pub row-good : (w : ℕ) (p : ℕ → Bool) → w ≤ farthest → (sameRow [] (rowOf w p) ≡ true) ⊎ (goodRow (rowOf w p) ≡ true)
 row-good w p h = go (rowOf w p) (runs-tidy sameBit bit false p bits w)
   where
     bits : (x : ℕ) → (sameBit false (p x) ≡ true) ⊎ (bit (p x) ≡ true)

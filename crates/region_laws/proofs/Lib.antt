@@ -11,3 +11,5 @@ pub mod Pairs
 pub mod Union
 pub mod Smallest
 pub mod Strips
+pub mod Swept
+pub mod Join

@@ -96,10 +96,13 @@ one-smallest p b c s t = go (cases-bool (full b)) (cases-bool (full c))
   where
     bc : Within (inside b) (inside c)
     bc = s .least c (t .covers)
+
     cb : Within (inside c) (inside b)
     cb = t .least b (s .covers)
+
     corner : (d : Rect) → full d ≡ true → inside d (d .left) (d .top) ≡ true
     corner d f = let u = full-parts d f in at-spot d (d .left) (d .top) (record { left = omega arith; right = u .wide; top = omega arith; bottom = u .high })
+
     go : (full b ≡ true) ⊎ (full b ≡ false) → (full c ≡ true) ⊎ (full c ≡ false) → b ≡ c
     go (inl f) (inl g) = same-box b c (inner b c (full-parts b f) bc) (inner c b (full-parts c g) cb)
     go (inl f) (inr g) = absurd (both-ways (full c) g (full-from c (spot-full c (b .left) (b .top) (spot c (b .left) (b .top) (bc (b .left) (b .top) (corner b f))))))
@@ -108,19 +111,20 @@ one-smallest p b c s t = go (cases-bool (full b)) (cases-bool (full c))
 
 -- one box more
 widened : (c b : Rect) → Full c → Full b → Smallest (λ x y. inside c x y || inside b x y) (box (min (c .left) (b .left)) (min (c .top) (b .top)) (max (c .right) (b .right)) (max (c .bottom) (b .bottom)))
-widened c b f g = record
-    { covers = λ x y k. both x y (or-cases (inside c x y) (inside b x y) k)
-    ; least = λ d k.
-        let p = inner c d f (λ x y h. k x y (or-left (inside c x y) (inside b x y) h)) in
-        let q = inner b d g (λ x y h. k x y (or-right (inside c x y) (inside b x y) h)) in
-        let pl = p .left in let pr = p .right in let pt = p .top in let po = p .bottom in
-        let ql = q .left in let qr = q .right in let qt = q .top in let qo = q .bottom in
-        within-inner all d (record { left = omega arith; right = omega arith; top = omega arith; bottom = omega arith })
-    ; plain = λ n. let fw = f .wide in let fh = f .high in absurd (both-ways (full all) n (full-from all (record { wide = omega arith; high = omega arith })))
-    }
+widened c b f g = record {
+  covers = λ x y k. both x y (or-cases (inside c x y) (inside b x y) k);
+  least = λ d k.
+      let p = inner c d f (λ x y h. k x y (or-left (inside c x y) (inside b x y) h)) in
+      let q = inner b d g (λ x y h. k x y (or-right (inside c x y) (inside b x y) h)) in
+      let pl = p .left in let pr = p .right in let pt = p .top in let po = p .bottom in
+      let ql = q .left in let qr = q .right in let qt = q .top in let qo = q .bottom in
+      within-inner all d (record { left = omega arith; right = omega arith; top = omega arith; bottom = omega arith });
+  plain = λ n. let fw = f .wide in let fh = f .high in absurd (both-ways (full all) n (full-from all (record { wide = omega arith; high = omega arith })));
+}
   where
     all : Rect
     all = box (min (c .left) (b .left)) (min (c .top) (b .top)) (max (c .right) (b .right)) (max (c .bottom) (b .bottom))
+
     both : (x y : ℕ) → (inside c x y ≡ true) ⊎ (inside b x y ≡ true) → inside (box (min (c .left) (b .left)) (min (c .top) (b .top)) (max (c .right) (b .right)) (max (c .bottom) (b .bottom))) x y ≡ true
     both x y (inl h) =
         let n : Inner c all = record { left = omega arith; right = omega arith; top = omega arith; bottom = omega arith } in within-inner c all n x y h
@@ -131,7 +135,7 @@ widened c b f g = record
 abbrev pub Told : Rect → Type 0
 Told c = full c ≡ false → c ≡ noBox
 
-nothing : (c : Rect) (x y : ℕ) → full c ≡ false → inside c x y ≡ false
+pub nothing : (c : Rect) (x y : ℕ) → full c ≡ false → inside c x y ≡ false
 nothing c x y n = go (cases-bool (inside c x y))
   where
     go : (inside c x y ≡ true) ⊎ (inside c x y ≡ false) → inside c x y ≡ false
@@ -143,12 +147,14 @@ widen-smallest c b g = go (cases-bool (full c))
   where
     P : Rect → Type 0
     P d = Smallest (λ x y. inside c x y || inside b x y) d
+
     go : (full c ≡ true) ⊎ (full c ≡ false) → P (widen c b)
     go (inl t) = subst (λ (d : Rect). Smallest (λ x y. inside c x y || inside b x y) d) (sym (cond-true _ _ _ t)) (widened c b (full-parts c t) g)
-    go (inr n) = subst (λ (d : Rect). Smallest (λ x y. inside c x y || inside b x y) d) (sym (cond-false _ _ _ n)) (record
-      { covers = λ x y k. alone x y (or-cases (inside c x y) (inside b x y) k)
-      ; least = λ d k x y h. k x y (or-right (inside c x y) (inside b x y) h)
-      ; plain = λ m. absurd (both-ways (full b) m (full-from b g)) })
+    go (inr n) = subst (λ (d : Rect). Smallest (λ x y. inside c x y || inside b x y) d) (sym (cond-false _ _ _ n)) (record {
+      covers = λ x y k. alone x y (or-cases (inside c x y) (inside b x y) k);
+      least = λ d k x y h. k x y (or-right (inside c x y) (inside b x y) h);
+      plain = λ m. absurd (both-ways (full b) m (full-from b g));
+    })
       where
         alone : (x y : ℕ) → (inside c x y ≡ true) ⊎ (inside b x y ≡ true) → inside b x y ≡ true
         alone x y (inl h) = absurd (both-ways (inside c x y) (nothing c x y n) h)
@@ -156,11 +162,12 @@ widen-smallest c b g = go (cases-bool (full c))
 
 -- the smallest box over c, b and more is that over their widening and the more
 one-more : (c b : Rect) (bs : List Rect) (r : Rect) → Smallest (λ x y. inside c x y || inside b x y) (widen c b) → Smallest (λ x y. inside (widen c b) x y || covers bs x y) r
-         → Smallest (λ x y. inside c x y || (inside b x y || covers bs x y)) r
-one-more c b bs r w s = record
-    { covers = λ x y h. s .covers x y (more x y (or-cases (inside c x y) (inside b x y || covers bs x y) h))
-    ; least = λ d h. s .least d (λ x y g. less d h x y (or-cases (inside (widen c b) x y) (covers bs x y) g))
-    ; plain = s .plain }
+    → Smallest (λ x y. inside c x y || (inside b x y || covers bs x y)) r
+one-more c b bs r w s = record {
+  covers = λ x y h. s .covers x y (more x y (or-cases (inside c x y) (inside b x y || covers bs x y) h));
+  least = λ d h. s .least d (λ x y g. less d h x y (or-cases (inside (widen c b) x y) (covers bs x y) g));
+  plain = s .plain;
+}
   where
     more : (x y : ℕ) → (inside c x y ≡ true) ⊎ ((inside b x y || covers bs x y) ≡ true) → (inside (widen c b) x y || covers bs x y) ≡ true
     more x y (inl h) = or-left (inside (widen c b) x y) (covers bs x y) (w .covers x y (or-left (inside c x y) (inside b x y) h))
@@ -169,6 +176,7 @@ one-more c b bs r w s = record
         then : (inside b x y ≡ true) ⊎ (covers bs x y ≡ true) → (inside (widen c b) x y || covers bs x y) ≡ true
         then (inl i) = or-left (inside (widen c b) x y) (covers bs x y) (w .covers x y (or-right (inside c x y) (inside b x y) i))
         then (inr i) = or-right (inside (widen c b) x y) (covers bs x y) i
+
     less : (d : Rect) → Within (λ x y. inside c x y || (inside b x y || covers bs x y)) (inside d) → (x y : ℕ) → (inside (widen c b) x y ≡ true) ⊎ (covers bs x y ≡ true) → inside d x y ≡ true
     less d h x y (inr i) = h x y (or-right (inside c x y) (inside b x y || covers bs x y) (or-right (inside b x y) (covers bs x y) i))
     less d h x y (inl i) = w .least d part x y i
@@ -181,10 +189,11 @@ one-more c b bs r w s = record
             then (inr q) = h u v (or-right (inside c u v) (inside b u v || covers bs u v) (or-left (inside b u v) (covers bs u v) q))
 
 pub from-smallest : (c : Rect) (bs : List Rect) → Told c → All Sound bs → Smallest (λ x y. inside c x y || covers bs x y) (coverFrom c bs)
-from-smallest c [] t k = record
-    { covers = λ x y h. only x y (or-cases (inside c x y) false h)
-    ; least = λ d h x y g. h x y (or-left (inside c x y) false g)
-    ; plain = t }
+from-smallest c [] t k = record {
+  covers = λ x y h. only x y (or-cases (inside c x y) false h);
+  least = λ d h x y g. h x y (or-left (inside c x y) false g);
+  plain = t;
+}
   where
     only : (x y : ℕ) → (inside c x y ≡ true) ⊎ (false ≡ true) → inside c x y ≡ true
     only x y (inl h) = h
@@ -197,9 +206,11 @@ from-smallest c (b ∷ bs) t k =
 pub cover-smallest : (bs : List Rect) → All Sound bs → Smallest (covers bs) (cover bs)
 cover-smallest bs k =
     let s = from-smallest noBox bs (λ _. refl) k in
-    record { covers = λ x y h. s .covers x y (or-right (inside noBox x y) (covers bs x y) h)
-           ; least = λ d h. s .least d (λ x y g. part d h x y (or-cases (inside noBox x y) (covers bs x y) g))
-           ; plain = s .plain }
+    record {
+      covers = λ x y h. s .covers x y (or-right (inside noBox x y) (covers bs x y) h);
+      least = λ d h. s .least d (λ x y g. part d h x y (or-cases (inside noBox x y) (covers bs x y) g));
+      plain = s .plain;
+    }
   where
     part : (d : Rect) → Within (covers bs) (inside d) → (x y : ℕ) → (inside noBox x y ≡ true) ⊎ (covers bs x y ≡ true) → inside d x y ≡ true
     part d h x y (inl i) = absurd (both-ways (inside noBox x y) (nothing noBox x y refl) i)
@@ -207,10 +218,11 @@ cover-smallest bs k =
 
 -- the covering box depends on the pixels alone
 pub smallest-same : (p q : Places) (b : Rect) → ((x y : ℕ) → p x y ≡ q x y) → Smallest p b → Smallest q b
-smallest-same p q b e s = record
-    { covers = λ x y k. s .covers x y (e x y ∙ k)
-    ; least = λ c k. s .least c (λ x y h. k x y (sym (e x y) ∙ h))
-    ; plain = s .plain }
+smallest-same p q b e s = record {
+  covers = λ x y k. s .covers x y (e x y ∙ k);
+  least = λ c k. s .least c (λ x y h. k x y (sym (e x y) ∙ h));
+  plain = s .plain;
+}
 
 pub from-append : (c : Rect) (xs ys : List Rect) → coverFrom c (xs ++ ys) ≡ coverFrom (coverFrom c xs) ys
 from-append c [] ys = refl

@@ -91,7 +91,7 @@ stack-more old bs row n k t u h i e =
     ∙ (append-assoc (take n old) (rowBoxes t u (spans (take k row))) (new ∷ [])
     ∙ ap (λ v. take n old ++ v) (sym (ap (λ v. rowBoxes t u (spans v)) (take-more row k noBox i) ∙ (ap (rowBoxes t u) (spans-append (take k row) (getD row k noBox ∷ [])) ∙ rowBoxes-append t u (spans (take k row)) (spans (getD row k noBox ∷ []))))))))
 
-length-lowered : (u : ℕ) (xs : List Rect) → length (lowered u xs) ≡ length xs
+pub length-lowered : (u : ℕ) (xs : List Rect) → length (lowered u xs) ≡ length xs
 length-lowered u [] = refl
 length-lowered u (x ∷ xs) = ap suc (length-lowered u xs)
 

@@ -94,12 +94,14 @@ strip-row bs y i k b s =
     let m′ : rowAt y (take (k - i) rest) ≡ take (k - i) rest = all-in (take (k - i) rest) y (λ m h. mid m (short m h)) in
     let z : rowAt y (drop (k - i) rest) ≡ [] = all-out (drop (k - i) rest) y (λ m h. inl (last m (simp (length-drop) at h))) in
     sym (ap (rowAt y) (sym (take-append-drop i bs)) ∙ (rowAt-append y (take i bs) rest ∙ (ap (λ v. v ++ rowAt y rest) a
-      ∙ (ap (rowAt y) (sym (take-append-drop (k - i) rest)) ∙ (rowAt-append y (take (k - i) rest) (drop (k - i) rest) ∙ ((λ j. m′ j ++ z j) ∙ append-nil (take (k - i) rest)))))))
+    ∙ (ap (rowAt y) (sym (take-append-drop (k - i) rest)) ∙ (rowAt-append y (take (k - i) rest) (drop (k - i) rest) ∙ ((λ j. m′ j ++ z j) ∙ append-nil (take (k - i) rest)))))))
   where
     front : (m : ℕ) → m < length (take i bs) → m < i
     front m h = let g = length-take i bs in omega arith
+
     short : (m : ℕ) → m < length (take (k - i) (drop i bs)) → m < k - i
     short m h = let g = length-take (k - i) (drop i bs) in omega arith
+
     mid : (m : ℕ) → m < k - i → (getD (take (k - i) (drop i bs)) m noBox .top ≤ y) × (y < getD (take (k - i) (drop i bs)) m noBox .bottom)
     mid m h =
         let o = s .order in
@@ -109,6 +111,7 @@ strip-row bs y i k b s =
         let f = s .first (omega arith) in
         let g = bottoms bs i (i + m) b (omega arith) (omega arith) in
         subst (λ (c : Rect). (c .top ≤ y) × (y < c .bottom)) (sym e) (t, omega arith)
+
     last : (m : ℕ) → m < length bs - i - (k - i) → y < getD (drop (k - i) (drop i bs)) m noBox .top
     last m h =
         let o = s .order in

@@ -105,7 +105,7 @@ or-false : (b : Bool) → (b || false) ≡ b
 or-false true = refl
 or-false false = refl
 
-covers-append : (xs ys : List Rect) (x y : ℕ) → covers (xs ++ ys) x y ≡ (covers xs x y || covers ys x y)
+pub covers-append : (xs ys : List Rect) (x y : ℕ) → covers (xs ++ ys) x y ≡ (covers xs x y || covers ys x y)
 covers-append [] ys x y = refl
 covers-append (b ∷ bs) ys x y = let h = covers-append bs ys x y in grind (arith, h)
 
