@@ -8,7 +8,7 @@ use lib.Dec.{eqb, ltb, leb}
 use Rattle.std.proofs.shelf.Ways.{tells}
 use Rattle.std.proofs.shelf.Tests.{cases-lt, cases-bool, cond-true, cond-false, and-parts}
 use Rattle.region_laws.specs.Runs.{Run, run, at, tidy, reach, Ok}
-use Rattle.region_laws.specs.Bands.{Row, Band, boxes, bands, banded, sameRow, sameBit, bit, goodRow, rowBoxes}
+use Rattle.region_laws.specs.Bands.{Row, Band, boxes, bands, banded, sameRow, sameBit, bit, goodRow, rowBoxes, farthest}
 use Rattle.region_laws.specs.Spans.{spans}
 use Rattle.region_laws.specs.Boxes.{noBox}
 use Rattle.region_laws.specs.Spans.{rowAt}
@@ -58,3 +58,8 @@ row-bands low (b ∷ bs) y k =
 
 pub row-is : (bs : List Rect) (y : ℕ) → banded bs ≡ true → spans (rowAt y bs) ≡ at [] (bands bs) y
 row-is bs y k = ap (λ v. spans (rowAt y v)) (sym (boxes-bands bs)) ∙ row-bands 0 (bands bs) y (and-parts _ _ k .0)
+
+-- the spans of the boxes that have row y are a row
+pub row-fine : (bs vs : List Rect) (y : ℕ) → banded bs ≡ true → vs ≡ rowAt y bs → Ok false 0 (spans vs)
+row-fine bs vs y k e =
+    subst (λ (r : Row). Ok false 0 r) (sym (ap spans e ∙ row-is bs y k)) (row-at-ok 0 (bands bs) y (and-parts (tidy sameRow goodRow 0 (bands bs)) (leb (reach (bands bs)) farthest) k .0))

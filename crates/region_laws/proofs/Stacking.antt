@@ -6,17 +6,17 @@ use mathlib.Core.Path.{_≡_, refl, sym, ap, _∙_, subst}
 use mathlib.Core.Logic.{_≢_, _⊎_, inl, inr}
 use mathlib.Core.Bool.{Bool, true, false, cond, not, _&&_, _||_}
 use lib.Dec.{eqb, ltb, leb}
-use lib.ListN.{length, take, drop, set, getD}
+use lib.ListN.{length, take, drop, set, getD, replicate}
 use Rattle.std.proofs.shelf.Ways.{tells}
-use Rattle.std.proofs.shelf.Tests.{cases-bool, both-ways, cond-true, cond-false, eq-eqb, ne-eqb}
-use Rattle.std.proofs.shelf.Lists.{take-more, take-more-set, drop-more, drop-set-lt, take-all, drop-all, append-nil, drop-take, length-take, length-drop, take-take, getD-take}
-use Rattle.std.proofs.shelf.Parts.{take-putMid}
+use Rattle.std.proofs.shelf.Tests.{le-leb, cases-bool, both-ways, cond-true, cond-false, eq-eqb, ne-eqb}
+use Rattle.std.proofs.shelf.Lists.{take-more, take-more-set, drop-more, drop-set-lt, take-all, drop-all, append-nil, drop-take, length-take, length-drop, length-append, take-take, getD-take, drop-drop, drop-replicate}
+use Rattle.std.proofs.shelf.Parts.{take-putMid, drop-putMid}
 use borrow.Rule.Slice.PartMut.{putMid}
 use Rattle.region_laws.specs.Runs.{Run, run, push}
 use Rattle.region_laws.specs.Bands.{Row, Band, boxes, sameRow, rowBoxes}
 use Rattle.region_laws.specs.Spans.{spans}
-use Rattle.region_laws.specs.Boxes.{noBox}
-use Rattle.region_laws.specs.Stacked.{lowered, endsAt}
+use Rattle.region_laws.specs.Boxes.{box, noBox}
+use Rattle.region_laws.specs.Stacked.{lowered, endsAt, goesOn, stacked, startOfLast}
 use Rattle.region_laws.specs.declared.rect.Rect.{Rect}
 use Rattle.region_laws.proofs.Tidy.{sameRow-true}
 use Rattle.region_laws.proofs.Extend.{spans-append}
@@ -79,18 +79,6 @@ rowBoxes-append : (t u : ℕ) (xs ys : Row) → rowBoxes t u (xs ++ ys) ≡ rowB
 rowBoxes-append t u [] ys = refl
 rowBoxes-append t u (x ∷ xs) ys = ap (λ v. record { left = x .from; top = t; right = x .to; bottom = u } ∷ v) (rowBoxes-append t u xs ys)
 
-pub stack-more : (old bs row : List Rect) (n k t u : ℕ) → n + k < length bs → k < length row
-    → take (n + k) bs ≡ take n old ++ rowBoxes t u (spans (take k row))
-    → take (n + (k + 1)) (set bs (n + k) record { left = getD row k noBox .left; top = t; right = getD row k noBox .right; bottom = u }) ≡ take n old ++ rowBoxes t u (spans (take (k + 1) row))
-stack-more old bs row n k t u h i e =
-    let new : Rect = record { left = getD row k noBox .left; top = t; right = getD row k noBox .right; bottom = u } in
-    let a : n + (k + 1) ≡ n + k + 1 = omega arith in
-    ap (λ m. take m (set bs (n + k) new)) a
-    ∙ (take-more-set bs (n + k) new h
-    ∙ (ap (λ v. v ++ new ∷ []) e
-    ∙ (append-assoc (take n old) (rowBoxes t u (spans (take k row))) (new ∷ [])
-    ∙ ap (λ v. take n old ++ v) (sym (ap (λ v. rowBoxes t u (spans v)) (take-more row k noBox i) ∙ (ap (rowBoxes t u) (spans-append (take k row) (getD row k noBox ∷ [])) ∙ rowBoxes-append t u (spans (take k row)) (spans (getD row k noBox ∷ []))))))))
-
 pub length-lowered : (u : ℕ) (xs : List Rect) → length (lowered u xs) ≡ length xs
 length-lowered u [] = refl
 length-lowered u (x ∷ xs) = ap suc (length-lowered u xs)
@@ -125,3 +113,72 @@ goes-is bs row s n m t r h k b e =
 
 pub goes-not : (bs : List Rect) (row : Row) (s n t : ℕ) → s < n → n ≤ length bs → (getD bs s noBox .bottom ≡ t → ⊥) → false ≡ (endsAt (drop s (take n bs)) t && sameRow (spans (drop s (take n bs))) row)
 goes-not bs row s n t h k b = ap (λ v. v && sameRow (spans (drop s (take n bs))) row) (sym (ends-is bs s n t h k ∙ ne-eqb (getD bs s noBox .bottom) t b))
+
+-- the unused boxes stay (0, 0, 0, 0): after a box is put behind the others, and after a part of them is written
+pub rest-set : (bs : List Rect) (n : ℕ) (b : Rect) → drop n bs ≡ replicate (32 - n) noBox → drop (n + 1) (set bs n b) ≡ replicate (32 - (n + 1)) noBox
+rest-set bs n b e =
+    let f : 32 - n - 1 ≡ 32 - (n + 1) = omega arith in
+    drop-set-lt (n + 1) bs n b (omega arith) ∙ (sym (drop-drop 1 n bs) ∙ (ap (drop 1) e ∙ (drop-replicate 1 (32 - n) noBox ∙ ap (λ m. replicate m noBox) f)))
+
+pub rest-part : (bs new : List Rect) (s n u : ℕ) → s ≤ n → n ≤ length bs → new ≡ lowered u (take (n - s) (drop s bs)) → drop n (putMid s (n - s) bs new) ≡ drop n bs
+rest-part bs new s n u h k e =
+    let l : length new ≡ n - s = ap length e ∙ (length-lowered u (take (n - s) (drop s bs)) ∙ simp (length-take, length-drop) (omega arith)) in
+    drop-putMid s (n - s) bs new n (omega arith) (omega arith) l
+
+-- a band is written box by box
+pub band-more : (old now row : List Rect) (k t u : ℕ) → k < length row → now ≡ old ++ rowBoxes t u (spans (take k row))
+    → now ++ box (getD row k noBox .left) t (getD row k noBox .right) u ∷ [] ≡ old ++ rowBoxes t u (spans (take (k + 1) row))
+band-more old now row k t u i e =
+    let new : Rect = box (getD row k noBox .left) t (getD row k noBox .right) u in
+    ap (λ v. v ++ new ∷ []) e
+    ∙ (append-assoc old (rowBoxes t u (spans (take k row))) (new ∷ [])
+    ∙ ap (λ v. old ++ v) (sym (ap (λ v. rowBoxes t u (spans v)) (take-more row k noBox i) ∙ (ap (rowBoxes t u) (spans-append (take k row) (getD row k noBox ∷ [])) ∙ rowBoxes-append t u (spans (take k row)) (spans (getD row k noBox ∷ []))))))
+
+-- how many boxes there then are
+pub length-rowBoxes : (t u : ℕ) (r : Row) → length (rowBoxes t u r) ≡ length r
+length-rowBoxes t u [] = refl
+length-rowBoxes t u (s ∷ ss) = ap suc (length-rowBoxes t u ss)
+
+-- one more row that is not empty
+pub stacked-on : (bs : List Rect) (s : ℕ) (row : Row) (t u : ℕ) → row ≢ [] → goesOn bs s row t ≡ true → (stacked bs s row t u ≡ take s bs ++ lowered u (drop s bs)) × (startOfLast bs s row t ≡ s)
+stacked-on bs s [] t u n g = absurd (n refl)
+stacked-on bs s (r ∷ rs) t u n g = (cond-true _ _ _ g, cond-true _ _ _ g)
+
+pub stacked-under : (bs : List Rect) (s : ℕ) (row : Row) (t u : ℕ) → row ≢ [] → goesOn bs s row t ≡ false → (stacked bs s row t u ≡ bs ++ rowBoxes t u row) × (startOfLast bs s row t ≡ length bs)
+stacked-under bs s [] t u n g = absurd (n refl)
+stacked-under bs s (r ∷ rs) t u n g = (cond-false _ _ _ g, cond-false _ _ _ g)
+
+-- whether it fits
+pub fits-none : (bs : List Rect) (s : ℕ) (row : Row) (t u : ℕ) → length bs ≤ 32 → row ≡ [] → (true ≡ leb (length (stacked bs s row t u)) 32) × (bs ≡ stacked bs s row t u) × (s ≡ startOfLast bs s row t)
+fits-none bs s [] t u h e = (sym (le-leb (length bs) 32 h), refl, refl)
+fits-none bs s (r ∷ rs) t u h e = let z : _≡_ {A = ℕ} 0 1 = cc in absurd (omega arith)
+
+pub fits-on : (bs : List Rect) (s : ℕ) (row : Row) (t u : ℕ) → row ≢ [] → goesOn bs s row t ≡ true → length bs ≤ 32 → true ≡ leb (length (stacked bs s row t u)) 32
+fits-on bs s row t u n g h =
+    let e = ap length (stacked-on bs s row t u n g .0) in
+    let a = length-append (take s bs) (lowered u (drop s bs)) in
+    let b = length-lowered u (drop s bs) in
+    let c = length-take s bs in
+    let d = length-drop s bs in
+    sym (le-leb (length (stacked bs s row t u)) 32 (omega arith))
+
+pub fits-under : (bs : List Rect) (s : ℕ) (row : Row) (t u : ℕ) → row ≢ [] → goesOn bs s row t ≡ false → leb (length bs + length row) 32 ≡ leb (length (stacked bs s row t u)) 32
+fits-under bs s row t u n g =
+    let e = ap length (stacked-under bs s row t u n g .0) in
+    let a = length-append bs (rowBoxes t u row) in
+    let b = length-rowBoxes t u row in
+    let f : length bs + length row ≡ length (stacked bs s row t u) = omega arith in
+    ap (λ m. leb m 32) f
+
+pub length-front : (bs : List Rect) (n : ℕ) → n ≤ length bs → length (take n bs) ≡ n
+length-front bs n h = let e = length-take n bs in omega arith
+
+pub length-span : (bs : List Rect) (n : ℕ) → n ≤ length bs → length (spans (take n bs)) ≡ n
+length-span bs n h = length-spans (take n bs) ∙ length-front bs n h
+
+-- a strip's row is empty just where it has no box
+pub strip-none : (bs : List Rect) (n : ℕ) → n ≡ 0 → spans (take n bs) ≡ []
+strip-none bs n e = ap (λ m. spans (take m bs)) e
+
+pub strip-some : (bs : List Rect) (n : ℕ) → n ≤ length bs → (n ≡ 0 → ⊥) → spans (take n bs) ≢ []
+strip-some bs n h z e = let f = length-span bs n h in let g = ap length e in absurd (z (omega arith))

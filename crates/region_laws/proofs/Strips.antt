@@ -13,6 +13,7 @@ use Rattle.std.proofs.shelf.Tests.{cases-lt, cases-eq, cond-true, cond-false}
 use Rattle.std.proofs.shelf.Lists.{take-append-drop, length-take, length-drop, getD-take, getD-drop, append-nil, drop-drop}
 use Rattle.region_laws.specs.Boxes.{noBox, inside}
 use Rattle.region_laws.specs.Bands.{covers, banded}
+use Rattle.region_laws.specs.Listed.{high}
 use Rattle.region_laws.specs.Spans.{rowAt, Plain}
 use Rattle.region_laws.specs.declared.rect.Rect.{Rect}
 use Rattle.region_laws.proofs.Pairs.{Before, Sound, banded-before, banded-sound}
@@ -147,3 +148,19 @@ edge-top bs y i e b a h u = plain-from bs y e (λ k l. go k l (cases-lt k i))
     go : (k : ℕ) → k < length bs → (k < i) ⊎ (i ≤ k) → (y < getD bs k noBox .top → e ≤ getD bs k noBox .top) × (y < getD bs k noBox .bottom → e ≤ getD bs k noBox .bottom)
     go k l (inl p) = let v = a k p in let s = banded-sound bs k b l .high in ((λ t. absurd (omega arith)), (λ t. absurd (omega arith)))
     go k l (inr p) = let g = tops bs i k b p l in let s = banded-sound bs k b l .high in ((λ q. omega arith), (λ q. omega arith))
+
+-- where a banded list ends: at its last box's bottom
+high-least : (bs : List Rect) (m : ℕ) → ((k : ℕ) → k < length bs → getD bs k noBox .bottom ≤ m) → high bs ≤ m
+high-least [] m f = omega arith
+high-least (b ∷ bs) m f = let h : b .bottom ≤ m = f 0 (omega arith) in let t = high-least bs m (λ k l. f (suc k) (omega arith)) in omega arith
+
+high-over : (bs : List Rect) (k : ℕ) → k < length bs → getD bs k noBox .bottom ≤ high bs
+high-over [] k h = absurd (omega arith)
+high-over (b ∷ bs) zero h = omega arith
+high-over (b ∷ bs) (suc k) h = let t = high-over bs k (omega arith) in omega arith
+
+pub high-last : (bs : List Rect) → banded bs ≡ true → 0 < length bs → getD bs (length bs - 1) noBox .bottom ≡ high bs
+high-last bs b h =
+    let u = high-over bs (length bs - 1) (omega arith) in
+    let v = high-least bs (getD bs (length bs - 1) noBox .bottom) (λ k l. bottoms bs k (length bs - 1) b (omega arith) (omega arith)) in
+    omega arith

@@ -23,7 +23,7 @@ use Rattle.region_laws.proofs.Push.{runs-made, made-push, made-skip, made-runs
 use Rattle.region_laws.proofs.Exists.{runs-tidy, row-good}
 use Rattle.region_laws.proofs.Flat.{startOf, goes, push-on, push-under, goes-same}
 use Rattle.region_laws.proofs.Rows.{row-is}
-use Rattle.region_laws.proofs.Stacking.{length-lowered}
+use Rattle.region_laws.proofs.Stacking.{length-lowered, stacked-on, stacked-under}
 use Rattle.region_laws.proofs.Pairs.{banded-wide, banded-high}
 use Rattle.region_laws.proofs.Union.{covers-right}
 use Rattle.region_laws.proofs.Strips.{plain-covers}
@@ -79,7 +79,7 @@ bands-push xs ys y e p q l n =
     (made-push sameRow [] sameRow-true sameRow-eq (unionRow xs ys) y e (unionBands xs ys y) (unionRow xs ys y) made l n (λ z g h. row-stays xs ys y e z p q g h)))
 
 -- an empty row adds nothing
-pub swept-skip : (xs ys : List Rect) (y e : ℕ) (out : List Rect) (s : ℕ) (row : Row) → Plain xs y e → Plain ys y e → y < e → row ≡ unionRow xs ys y → row ≡ []
+swept-skip : (xs ys : List Rect) (y e : ℕ) (out : List Rect) (s : ℕ) (row : Row) → Plain xs y e → Plain ys y e → y < e → row ≡ unionRow xs ys y → row ≡ []
     → Swept xs ys y out s → Swept xs ys e out s
 swept-skip xs ys y e out s row p q l r n w =
     let b = bands-skip xs ys y e p q l (sym r ∙ n) in
@@ -111,28 +111,47 @@ bands-tidy xs ys y k m =
     runs-tidy sameRow goodRow [] (unionRow xs ys) (λ z. row-good (max (wide xs) (wide ys)) (λ x. either xs ys x z) (omega arith)) y .0
 
 -- what putting a row under the boxes does is what putting a run under the bands does
-push-stacked : (bs : List Band) (row : Row) (t u : ℕ) → tidy sameRow goodRow 0 bs ≡ true
+push-stacked : (bs : List Band) (row : Row) (t u : ℕ) → row ≢ [] → tidy sameRow goodRow 0 bs ≡ true
     → (stacked (boxes bs) (startOf bs) row t u ≡ boxes (push sameRow bs t u row)) × (startOfLast (boxes bs) (startOf bs) row t ≡ startOf (push sameRow bs t u row))
-push-stacked bs row t u k = go (cases-bool (goes bs row t))
+push-stacked bs row t u n k = go (cases-bool (goes bs row t))
   where
     same : goesOn (boxes bs) (startOf bs) row t ≡ goes bs row t
     same = goes-same 0 bs row t k
 
     go : (goes bs row t ≡ true) ⊎ (goes bs row t ≡ false)
         → (stacked (boxes bs) (startOf bs) row t u ≡ boxes (push sameRow bs t u row)) × (startOfLast (boxes bs) (startOf bs) row t ≡ startOf (push sameRow bs t u row))
-    go (inl g) = (cond-true _ _ _ (same ∙ g) ∙ sym (push-on bs row t u g), cond-true _ _ _ (same ∙ g) ∙ sym (start-on bs row t u g))
-    go (inr g) = (cond-false _ _ _ (same ∙ g) ∙ sym (push-under bs row t u g), cond-false _ _ _ (same ∙ g) ∙ sym (start-under bs row t u g))
+    go (inl g) = let e = stacked-on (boxes bs) (startOf bs) row t u n (same ∙ g) in (e .0 ∙ sym (push-on bs row t u g), e .1 ∙ sym (start-on bs row t u g))
+    go (inr g) = let e = stacked-under (boxes bs) (startOf bs) row t u n (same ∙ g) in (e .0 ∙ sym (push-under bs row t u g), e .1 ∙ sym (start-under bs row t u g))
+
+swept-more : (xs ys : List Rect) (y e : ℕ) (out : List Rect) (s : ℕ) (row : Row) → banded xs ≡ true → banded ys ≡ true → Plain xs y e → Plain ys y e → y < e
+    → row ≡ unionRow xs ys y → row ≢ [] → Swept xs ys y out s → Swept xs ys e (stacked out s row y e) (startOfLast out s row y)
+swept-more xs ys y e out s row k m p q l r n w =
+    let b = bands-push xs ys y e p q l (λ z. n (r ∙ z)) in
+    let c = push-stacked (unionBands xs ys y) (unionRow xs ys y) y e (λ z. n (r ∙ z)) (bands-tidy xs ys y k m) in
+    record {
+      list = (λ i. stacked (w .list i) (w .start-is i) (r i) y e) ∙ (c .0 ∙ ap boxes (sym b));
+      start-is = (λ i. startOfLast (w .list i) (w .start-is i) (r i) y) ∙ (c .1 ∙ ap startOf (sym b));
+    }
 
 -- a row more
-pub swept-more : (xs ys : List Rect) (y e : ℕ) (out : List Rect) (s : ℕ) (row : Row) → banded xs ≡ true → banded ys ≡ true → Plain xs y e → Plain ys y e → y < e
-    → row ≡ unionRow xs ys y → row ≢ [] → Swept xs ys y out s → (new : List Rect) (t : ℕ) → new ≡ stacked out s row y e → t ≡ startOfLast out s row y → Swept xs ys e new t
-swept-more xs ys y e out s row k m p q l r n w new t f g =
-    let b = bands-push xs ys y e p q l (λ z. n (r ∙ z)) in
-    let c = push-stacked (unionBands xs ys y) (unionRow xs ys y) y e (bands-tidy xs ys y k m) in
-    record {
-      list = f ∙ ((λ i. stacked (w .list i) (w .start-is i) (r i) y e) ∙ (c .0 ∙ ap boxes (sym b)));
-      start-is = g ∙ ((λ i. startOfLast (w .list i) (w .start-is i) (r i) y) ∙ (c .1 ∙ ap startOf (sym b)));
-    }
+pub swept-row : (xs ys : List Rect) (y e : ℕ) (out : List Rect) (s : ℕ) (row : Row) → banded xs ≡ true → banded ys ≡ true → Plain xs y e → Plain ys y e → y < e
+    → row ≡ unionRow xs ys y → Swept xs ys y out s → Swept xs ys e (stacked out s row y e) (startOfLast out s row y)
+swept-row xs ys y e out s [] k m p q l r w = swept-skip xs ys y e out s [] p q l r refl w
+swept-row xs ys y e out s (v ∷ vs) k m p q l r w = swept-more xs ys y e out s (v ∷ vs) k m p q l r (λ z. some z) w
+  where
+    some : v ∷ vs ≡ [] → ⊥
+    some z = let c : _≡_ {A = ℕ} 0 1 = cc in omega arith
+
+-- the turn of the sweep: vs and ws are the boxes at row y, `row` is their union, and `new` is what was then written
+pub swept-turn : (xs ys vs ws : List Rect) (y e : ℕ) (out : List Rect) (s : ℕ) (row : Row) → banded xs ≡ true → banded ys ≡ true → Plain xs y e → Plain ys y e → y < e
+    → vs ≡ rowAt y xs → ws ≡ rowAt y ys → Ok false 0 row → ((x : ℕ) → at false row x ≡ (at false (spans vs) x || at false (spans ws) x))
+    → Swept xs ys y out s → Swept xs ys e (stacked out s row y e) (startOfLast out s row y)
+swept-turn xs ys vs ws y e out s row k m p q l a b o f w =
+    let r = merged-row xs ys y row k m o (λ x. f x ∙ (λ i. at false (spans (a i)) x || at false (spans (b i)) x)) in
+    swept-row xs ys y e out s row k m p q l r w
+
+pub swept-at : (xs ys : List Rect) (y : ℕ) (out new : List Rect) (s t : ℕ) → Swept xs ys y out s → new ≡ out → t ≡ s → Swept xs ys y new t
+swept-at xs ys y out new s t w e f = record { list = e ∙ w .list; start-is = f ∙ w .start-is }
 
 -- the boxes never become fewer
 push-grows : (bs : List Band) (row : Row) (t u : ℕ) → length (boxes bs) ≤ length (boxes (push sameRow bs t u row))

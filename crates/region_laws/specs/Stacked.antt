@@ -23,10 +23,13 @@ endsAt (b ∷ bs) t = eqb (b .bottom) t
 abbrev pub goesOn : List Rect → ℕ → Row → ℕ → Bool
 goesOn bs s row t = endsAt (drop s bs) t && sameRow (spans (drop s bs)) row
 
--- one more row, from t down to u: the last band is lengthened where it goes on, else the row becomes a band
+-- one more row, from t down to u: an empty one adds nothing, else the last band is lengthened where it goes on with
+-- this row, else the row becomes a band
 abbrev pub stacked : List Rect → ℕ → Row → ℕ → ℕ → List Rect
-stacked bs s row t u = cond (goesOn bs s row t) (take s bs ++ lowered u (drop s bs)) (bs ++ rowBoxes t u row)
+stacked bs s [] t u = bs
+stacked bs s (r ∷ rs) t u = cond (goesOn bs s (r ∷ rs) t) (take s bs ++ lowered u (drop s bs)) (bs ++ rowBoxes t u (r ∷ rs))
 
 -- where the last band then starts
 abbrev pub startOfLast : List Rect → ℕ → Row → ℕ → ℕ
-startOfLast bs s row t = cond (goesOn bs s row t) s (length bs)
+startOfLast bs s [] t = s
+startOfLast bs s (r ∷ rs) t = cond (goesOn bs s (r ∷ rs) t) s (length bs)

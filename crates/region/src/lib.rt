@@ -1,0 +1,15 @@
+// Boxes clipped to a display, and regions: sets of display pixels as banded lists of at most 32 boxes.
+mod display;
+mod merge;
+mod pile;
+mod region;
+mod signed_rect;
+mod slab;
+mod stacking;
+mod strip;
+mod sweep;
+
+pub use display::Display;
+pub use region::Region;
+pub use region_laws::Rect;
+pub use signed_rect::SignedRect;
