@@ -1,12 +1,13 @@
 -- Boxes of any place and size, clipped to a display.
 use Prim.Native.Nat.{ℕ, min}
 use mathlib.Core.Bool.{Bool, cond, _&&_}
-use lib.Dec.{ltb}
+use lib.Dec.{ltb, leb}
 use lib.IntN.{ℤ, pos, negsuc}
 use lib.Signed.{ltZ, leZ}
 use Rattle.std.specs.declared.option.Option.{Option}
 use Rattle.std.specs.declared.option.Option.the-variants.{Some, None}
 use Rattle.region_laws.specs.Boxes.{Places, box, full}
+use Rattle.region_laws.specs.Bands.{farthest}
 use Rattle.region_laws.specs.declared.rect.Rect.{Rect}
 use Rattle.region.specs.declared.signed_rect.SignedRect.{SignedRect}
 
@@ -17,6 +18,14 @@ within b x y = (leZ (b .left) (pos x) && ltZ (pos x) (b .right)) && (leZ (b .top
 -- the pixels of a display of w by h
 abbrev pub shown : ℕ → ℕ → Places
 shown w h x y = ltb x w && ltb y h
+
+-- the pixels that a box and a display of w by h have in common
+abbrev pub common : ℕ → ℕ → SignedRect → Places
+common w h b x y = shown w h x y && within b x y
+
+-- the sizes that a display can have
+abbrev pub sized : ℕ → ℕ → Bool
+sized w h = (ltb 0 w && leb w farthest) && (ltb 0 h && leb h farthest)
 
 -- a signed edge, held to 0 .. m
 abbrev pub held : ℤ → ℕ → ℕ

@@ -1,5 +1,10 @@
 // Boxes clipped to a display, and regions: sets of display pixels as banded lists of at most 32 boxes.
+mod asking;
+mod clip;
+mod cover;
 mod display;
+mod join;
+mod making;
 mod merge;
 mod pile;
 mod region;

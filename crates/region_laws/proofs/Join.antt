@@ -126,3 +126,10 @@ joined-none xs k h = let e = union-none xs k in let f = ap length e in joined-sh
 
 pub none-joined : (xs : List Rect) → banded xs ≡ true → length xs ≤ most → joined [] xs ≡ xs
 none-joined xs k h = joined-swap [] xs ∙ joined-none xs k h
+
+-- the covering box of two regions lies in the largest display
+pub both-inside : (xs ys : List Rect) (b : Rect) → banded xs ≡ true → banded ys ≡ true → b ≡ coverFrom (coverFrom noBox xs) ys → full b ≡ true → (b .right ≤ farthest) × (b .bottom ≤ farthest)
+both-inside xs ys b k m e f =
+    let g : cover (xs ++ ys) ≡ b = from-append noBox xs ys ∙ sym e in
+    let s = cover-sound (xs ++ ys) (all-append Sound xs ys (banded-all xs k) (banded-all ys m)) (ap full g ∙ f) in
+    subst (λ (c : Rect). (c .right ≤ farthest) × (c .bottom ≤ farthest)) g (s .right, s .bottom)

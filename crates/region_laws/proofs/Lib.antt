@@ -13,3 +13,5 @@ pub mod Smallest
 pub mod Strips
 pub mod Swept
 pub mod Join
+pub mod Counts
+pub mod Laws

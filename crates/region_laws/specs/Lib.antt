@@ -6,3 +6,4 @@ pub mod Joined
 pub mod Counted
 pub mod Spans
 pub mod Stacked
+pub mod Laws
