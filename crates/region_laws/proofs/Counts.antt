@@ -21,7 +21,8 @@ use Rattle.region_laws.specs.declared.rect.Rect.{Rect}
 use Rattle.region_laws.proofs.Unique.{at-in, at-left, at-right, at-before}
 use Rattle.region_laws.proofs.Tidy.{Parts, parts, row-at-ok, bands-ok, row-ok, covers-tidy, boxes-bands, good-tidy}
 use Rattle.region_laws.proofs.Push.{ok-reach}
-use Rattle.region_laws.proofs.Pairs.{All, Sound, banded-all, banded-wide, banded-high}
+use Rattle.region_laws.specs.Rules.{Sound}
+use Rattle.region_laws.proofs.Pairs.{All, banded-all, banded-wide, banded-high}
 
 pub sum-same : (f g : ℕ → ℕ) (a n : ℕ) → ((x : ℕ) → f x ≡ g x) → sum f a n ≡ sum g a n
 sum-same f g a n e = λ i. sum (λ x. e x i) a n

@@ -14,7 +14,8 @@ use Rattle.region_laws.specs.Bands.{covers, banded, farthest}
 use Rattle.region_laws.specs.Joined.{either, union, coverFrom, cover, single, most, standIn, joined}
 use Rattle.region_laws.specs.declared.rect.Rect.{Rect}
 use Rattle.region_laws.proofs.Tidy.{covers-append}
-use Rattle.region_laws.proofs.Pairs.{All, Sound, all-append, banded-all}
+use Rattle.region_laws.specs.Rules.{Sound}
+use Rattle.region_laws.proofs.Pairs.{All, all-append, banded-all}
 use Rattle.region_laws.proofs.Union.{union-banded, union-covers, union-swap, union-same, union-none}
 use Rattle.region_laws.proofs.Smallest.{Full, full-parts, full-from, Spot, spot, at-spot, spot-full, Inner, inner, one-smallest, smallest-same, cover-smallest, from-append, nothing}
 

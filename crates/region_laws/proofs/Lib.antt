@@ -15,3 +15,5 @@ pub mod Swept
 pub mod Join
 pub mod Counts
 pub mod Laws
+pub mod Examples
+pub mod FourRules

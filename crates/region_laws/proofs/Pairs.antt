@@ -12,6 +12,7 @@ use Rattle.region_laws.specs.Boxes.{noBox}
 use Rattle.region_laws.specs.Runs.{Run, run, tidy, reach, apart}
 use Rattle.region_laws.specs.Bands.{Row, Band, boxes, bands, banded, sameRow, sameBit, bit, goodRow, rowBoxes, farthest}
 use Rattle.region_laws.specs.Listed.{wide, high}
+use Rattle.region_laws.specs.Rules.{Sound}
 use Rattle.region_laws.specs.declared.rect.Rect.{Rect}
 use Rattle.region_laws.proofs.Tidy.{Parts, parts, good-tidy, sameBit-eq, boxes-bands}
 use Rattle.region_laws.proofs.Exists.{tidy-from, tidy-reach}
@@ -36,13 +37,6 @@ pub all-at : (P : Rect → Type 0) (xs : List Rect) (i : ℕ) → All P xs → i
 all-at P [] i p h = absurd (omega arith)
 all-at P (x ∷ xs) zero p h = p .0
 all-at P (x ∷ xs) (suc i) p h = all-at P xs i (p .1) (omega arith)
-
--- a box covers a pixel, and none past the far edge
-pub record Sound (b : Rect) : Type 0 where
-  pub wide : b .left < b .right
-  pub high : b .top < b .bottom
-  pub right : b .right ≤ farthest
-  pub bottom : b .bottom ≤ farthest
 
 -- a stands before b: in the same band and to the left of it without touching it, or wholly above it
 abbrev pub Beside : Rect → Rect → Type 0

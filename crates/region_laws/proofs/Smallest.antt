@@ -12,7 +12,8 @@ use Rattle.region_laws.specs.Boxes.{Places, box, noBox, inside, full, Within, 
 use Rattle.region_laws.specs.Bands.{covers}
 use Rattle.region_laws.specs.Joined.{widen, coverFrom, cover}
 use Rattle.region_laws.specs.declared.rect.Rect.{Rect}
-use Rattle.region_laws.proofs.Pairs.{All, Sound}
+use Rattle.region_laws.specs.Rules.{Sound}
+use Rattle.region_laws.proofs.Pairs.{All}
 
 -- a pixel of a box, as four bounds
 pub record Spot (b : Rect) (x y : ℕ) : Type 0 where

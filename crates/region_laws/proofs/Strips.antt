@@ -16,7 +16,8 @@ use Rattle.region_laws.specs.Bands.{covers, banded}
 use Rattle.region_laws.specs.Listed.{high}
 use Rattle.region_laws.specs.Spans.{rowAt, Plain}
 use Rattle.region_laws.specs.declared.rect.Rect.{Rect}
-use Rattle.region_laws.proofs.Pairs.{Before, Sound, banded-before, banded-sound}
+use Rattle.region_laws.specs.Rules.{Sound}
+use Rattle.region_laws.proofs.Pairs.{Before, banded-before, banded-sound}
 use Rattle.region_laws.proofs.Rows.{rowAt-append}
 
 -- between two edges the pixels do not change

@@ -6,4 +6,6 @@ pub mod Joined
 pub mod Counted
 pub mod Spans
 pub mod Stacked
+pub mod Rules
 pub mod Laws
+pub mod Examples
