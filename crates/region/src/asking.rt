@@ -6,6 +6,7 @@ ghost use lib.ListN.{length};
 ghost use Rattle.std.specs.Orderings.{Decides};
 ghost use Rattle.region_laws.specs.Boxes.{inside, Smallest};
 ghost use Rattle.region_laws.specs.Bands.{covers as hasPixel, banded as allBanded};
+ghost use Rattle.region_laws.specs.Rules.{Rules, Banding};
 ghost use Rattle.region_laws.specs.Joined.{cover};
 ghost use Rattle.region_laws.specs.Counted.{area as areaOf};
 ghost use Rattle.region_laws.specs.Laws.{Same, One-list, Every-set, Each-once, Counts, Stays-in};
@@ -74,7 +75,8 @@ impl Region {
     pub fn boxes(&self) -> &[Rect]
         ensures list { λ r. ⌜ now r ≡ listOf (now (self .entry)) ⌝ }
         ensures few { λ r. ⌜ length (now r) ≤ 32 ⌝ }
-        ensures rules { λ _. ⌜ allBanded (listOf (now (self .entry))) ≡ true ⌝ }
+        ensures rules { λ _. ⌜ Rules (listOf (now (self .entry))) ⌝ }
+        ensures banding { λ _. ⌜ Banding ⌝ }
         ensures within { λ _. ⌜ Stays-in (listOf (now (self .entry))) ⌝ }
         ensures each_once { λ _. ⌜ Each-once (listOf (now (self .entry))) ⌝ }
     {

@@ -153,17 +153,17 @@ row-high : (t b : ℕ) (r : Row) → goodRow r ≡ true → b ≤ high (rowBoxes
 row-high t b [] k = absurd (false≢true k)
 row-high t b (s ∷ ss) k = omega arith
 
-bands-high : (low : ℕ) (bs : List Band) → tidy sameRow goodRow low bs ≡ true → reach bs ≤ high (boxes bs)
-bands-high low [] k = omega arith
-bands-high low (b ∷ []) k =
-    let p = parts sameRow goodRow low b [] k in
+pub bands-high : (same : Row → Row → Bool) (low : ℕ) (bs : List Band) → tidy same goodRow low bs ≡ true → reach bs ≤ high (boxes bs)
+bands-high same low [] k = omega arith
+bands-high same low (b ∷ []) k =
+    let p = parts same goodRow low b [] k in
     let a = high-append (rowBoxes (b .from) (b .to) (b .what)) [] in
     let h = row-high (b .from) (b .to) (b .what) (p .fine) in
     omega arith
-bands-high low (b ∷ c ∷ cs) k =
-    let p = parts sameRow goodRow low b (c ∷ cs) k in
+bands-high same low (b ∷ c ∷ cs) k =
+    let p = parts same goodRow low b (c ∷ cs) k in
     let a = high-append (rowBoxes (b .from) (b .to) (b .what)) (boxes (c ∷ cs)) in
-    let h = bands-high (b .to) (c ∷ cs) (p .rest) in
+    let h = bands-high same (b .to) (c ∷ cs) (p .rest) in
     omega arith
 
 -- a weight summed over the boxes, box by box, row by row, pixel by pixel, is summed over the set, each pixel once
@@ -176,7 +176,7 @@ each-once bs k w h f fit =
     let inner : (y : ℕ) → sum (λ x. cond (covers bs x y) (f x y) 0) 0 w ≡ rowSum f y (at [] (bands bs) y) = λ y.
     sum-same (λ x. cond (covers bs x y) (f x y) 0) (λ x. bitSum f y x (at false (at [] (bands bs) y) x)) 0 w (λ x. ap (bitSum f y x) (covers-tidy bs x y k))
     ∙ (let u = at-wide (bands bs) y in sum-runs false (bitSum f y) (λ x. refl) 0 (at [] (bands bs) y) w (row-at-ok 0 (bands bs) y t) (omega arith)) in
-    let u = bands-high 0 (bands bs) t in
+    let u = bands-high sameRow 0 (bands bs) t in
     let outer = sum-runs [] (λ y r. rowSum f y r) (λ y. refl) 0 (bands bs) h (bands-ok 0 (bands bs) t) (omega arith) in
     ap (listSum f) (sym b) ∙ (band-boxes f 0 (bands bs) t ∙ (sym outer ∙ sym (sum-same (λ y. sum (λ x. cond (covers bs x y) (f x y) 0) 0 w) (λ y. rowSum f y (at [] (bands bs) y)) 0 h inner)))
 

@@ -17,3 +17,4 @@ pub mod Counts
 pub mod Laws
 pub mod Examples
 pub mod FourRules
+pub mod FromRules

@@ -116,15 +116,15 @@ pub record OfBands (low far : ℕ) (c : Rect) : Type 0 where
   pub top : low ≤ c .top
   pub bottom : c .bottom ≤ far
 
-bands-rest : (b : Band) (bs : List Band) → reach bs ≤ reach (b ∷ bs)
+pub bands-rest : (b : Band) (bs : List Band) → reach bs ≤ reach (b ∷ bs)
 bands-rest b [] = omega arith
 bands-rest b (c ∷ cs) = omega arith
 
-pub bands-all : (low far : ℕ) (bs : List Band) → tidy sameRow goodRow low bs ≡ true → reach bs ≤ far → far ≤ farthest → All (OfBands low far) (boxes bs)
-bands-all low far [] k h m = tt
-bands-all low far (b ∷ bs) k h m =
-    let p = parts sameRow goodRow low b bs k in
-    let e = tidy-reach sameRow goodRow low b bs k in
+pub bands-all : (same : Row → Row → Bool) (low far : ℕ) (bs : List Band) → tidy same goodRow low bs ≡ true → reach bs ≤ far → far ≤ farthest → All (OfBands low far) (boxes bs)
+bands-all same low far [] k h m = tt
+bands-all same low far (b ∷ bs) k h m =
+    let p = parts same goodRow low b bs k in
+    let e = tidy-reach same goodRow low b bs k in
     let q = bands-rest b bs in
     let l = p .start in
     let u = p .full in
@@ -134,14 +134,14 @@ bands-all low far (b ∷ bs) k h m =
     (λ c o. let t = o .top in let z = o .bottom in record { sound = record { wide = o .wide; high = omega arith; right = o .right; bottom = omega arith }; top = omega arith; bottom = omega arith })
     (rowBoxes (b .from) (b .to) (b .what)) (row-all 0 farthest (b .from) (b .to) (b .what) (good-tidy (b .what) (p .fine)) w))
     (all-map (OfBands (b .to) far) (OfBands low far) (λ c o. let t = o .top in record { sound = o .sound; top = omega arith; bottom = o .bottom })
-    (boxes bs) (bands-all (b .to) far bs (p .rest) (omega arith) m))
+    (boxes bs) (bands-all same (b .to) far bs (p .rest) (omega arith) m))
 
 bands-pairs : (low : ℕ) (bs : List Band) → tidy sameRow goodRow low bs ≡ true → reach bs ≤ farthest → Pairs (boxes bs)
 bands-pairs low [] k h = tt
 bands-pairs low (b ∷ bs) k h =
     let p = parts sameRow goodRow low b bs k in
     let q = bands-rest b bs in
-    let below = bands-all (b .to) farthest bs (p .rest) (omega arith) (omega arith) in
+    let below = bands-all sameRow (b .to) farthest bs (p .rest) (omega arith) (omega arith) in
     pairs-append (rowBoxes (b .from) (b .to) (b .what)) (boxes bs) (row-pairs 0 (b .from) (b .to) (b .what) (good-tidy (b .what) (p .fine)))
     (bands-pairs (b .to) bs (p .rest) (omega arith))
     (all-map (OfRow 0 (reach (b .what)) (b .from) (b .to)) (λ a. All (Before a) (boxes bs))
@@ -151,7 +151,7 @@ bands-pairs low (b ∷ bs) k h =
 pub banded-all : (bs : List Rect) → banded bs ≡ true → All Sound bs
 banded-all bs k =
     let a = and-parts (tidy sameRow goodRow 0 (bands bs)) (leb (reach (bands bs)) farthest) k in
-    subst (λ (v : List Rect). All Sound v) (boxes-bands bs) (all-map (OfBands 0 farthest) Sound (λ c o. o .sound) (boxes (bands bs)) (bands-all 0 farthest (bands bs) (a .0) (leb-true _ _ (a .1)) (omega arith)))
+    subst (λ (v : List Rect). All Sound v) (boxes-bands bs) (all-map (OfBands 0 farthest) Sound (λ c o. o .sound) (boxes (bands bs)) (bands-all sameRow 0 farthest (bands bs) (a .0) (leb-true _ _ (a .1)) (omega arith)))
 
 pub banded-pairs : (bs : List Rect) → banded bs ≡ true → Pairs bs
 banded-pairs bs k =
@@ -169,7 +169,7 @@ all-wide : (bs : List Rect) → All Sound bs → wide bs ≤ farthest
 all-wide [] k = omega arith
 all-wide (b ∷ bs) k = let h = all-wide bs (k .1) in let r = k .0 .right in omega arith
 
-all-high : (bs : List Rect) → All Sound bs → high bs ≤ farthest
+pub all-high : (bs : List Rect) → All Sound bs → high bs ≤ farthest
 all-high [] k = omega arith
 all-high (b ∷ bs) k = let h = all-high bs (k .1) in let r = k .0 .bottom in omega arith
 

@@ -13,7 +13,7 @@ use Rattle.region_laws.specs.Spans.{spans}
 use Rattle.region_laws.specs.Boxes.{noBox}
 use Rattle.region_laws.specs.Spans.{rowAt}
 use Rattle.region_laws.specs.declared.rect.Rect.{Rect}
-use Rattle.region_laws.proofs.Tidy.{Parts, parts, good-tidy, bands-ok, boxes-bands, row-at-ok}
+use Rattle.region_laws.proofs.Tidy.{tidy-before, Parts, parts, good-tidy, bands-ok, boxes-bands, row-at-ok}
 use Rattle.std.proofs.shelf.Lists.{take-more, take-more-set, take-all, append-nil}
 use lib.ListN.{take, set, getD, length}
 use Rattle.region_laws.proofs.Unique.{at-in, at-left, at-right, at-before}
@@ -37,27 +37,27 @@ rowAt-out t b y [] k = refl
 rowAt-out t b y (s ∷ ss) k = let e : (leb t y && ltb y b) ≡ false = grind (arith, tells) in cond-false _ _ _ e ∙ rowAt-out t b y ss k
 
 -- the boxes at y are the row of the bands at y
-pub row-bands : (low : ℕ) (bs : List Band) (y : ℕ) → tidy sameRow goodRow low bs ≡ true → spans (rowAt y (boxes bs)) ≡ at [] bs y
-row-bands low [] y k = refl
-row-bands low (b ∷ bs) y k =
-    let p = parts sameRow goodRow low b bs k in
+pub row-bands : (same : Row → Row → Bool) (low : ℕ) (bs : List Band) (y : ℕ) → tidy same goodRow low bs ≡ true → spans (rowAt y (boxes bs)) ≡ at [] bs y
+row-bands same low [] y k = refl
+row-bands same low (b ∷ bs) y k =
+    let p = parts same goodRow low b bs k in
     ap spans (rowAt-append y (rowBoxes (b .from) (b .to) (b .what)) (boxes bs))
-    ∙ (spans-append (rowAt y (rowBoxes (b .from) (b .to) (b .what))) (rowAt y (boxes bs)) ∙ go p (row-bands (b .to) bs y (p .rest)) (cases-lt y (b .from)) (cases-lt y (b .to)))
+    ∙ (spans-append (rowAt y (rowBoxes (b .from) (b .to) (b .what))) (rowAt y (boxes bs)) ∙ go p (row-bands same (b .to) bs y (p .rest)) (cases-lt y (b .from)) (cases-lt y (b .to)))
   where
     mine : List Rect
     mine = rowBoxes (b .from) (b .to) (b .what)
 
-    go : Parts sameRow goodRow low b bs → spans (rowAt y (boxes bs)) ≡ at [] bs y → (y < b .from) ⊎ (b .from ≤ y) → (y < b .to) ⊎ (b .to ≤ y)
+    go : Parts same goodRow low b bs → spans (rowAt y (boxes bs)) ≡ at [] bs y → (y < b .from) ⊎ (b .from ≤ y) → (y < b .to) ⊎ (b .to ≤ y)
         → spans (rowAt y mine) ++ spans (rowAt y (boxes bs)) ≡ at [] (b ∷ bs) y
     go p h (inl l) m = ap (λ v. spans v ++ spans (rowAt y (boxes bs))) (rowAt-out (b .from) (b .to) y (b .what) (inl l)) ∙ (h ∙ sym (at-left [] b bs y l))
     go p h (inr g) (inr m) = ap (λ v. spans v ++ spans (rowAt y (boxes bs))) (rowAt-out (b .from) (b .to) y (b .what) (inr m)) ∙ (h ∙ sym (at-right [] b bs y m))
     go p h (inr g) (inl m) =
-        let z : spans (rowAt y (boxes bs)) ≡ [] = h ∙ at-before [] (b .to) bs y (bands-ok (b .to) bs (p .rest)) m in
+        let z : spans (rowAt y (boxes bs)) ≡ [] = h ∙ tidy-before same goodRow [] (b .to) bs y (p .rest) m in
         ap (λ v. spans v ++ spans (rowAt y (boxes bs))) (rowAt-in (b .from) (b .to) y (b .what) g m)
         ∙ (ap (λ v. spans mine ++ v) z ∙ (sym (spans-append mine []) ∙ (spans-row 0 (b .from) (b .to) (b .what) (good-tidy (b .what) (p .fine)) ∙ sym (at-in [] b bs y g m))))
 
 pub row-is : (bs : List Rect) (y : ℕ) → banded bs ≡ true → spans (rowAt y bs) ≡ at [] (bands bs) y
-row-is bs y k = ap (λ v. spans (rowAt y v)) (sym (boxes-bands bs)) ∙ row-bands 0 (bands bs) y (and-parts _ _ k .0)
+row-is bs y k = ap (λ v. spans (rowAt y v)) (sym (boxes-bands bs)) ∙ row-bands sameRow 0 (bands bs) y (and-parts _ _ k .0)
 
 -- the spans of the boxes that have row y are a row
 pub row-fine : (bs vs : List Rect) (y : ℕ) → banded bs ≡ true → vs ≡ rowAt y bs → Ok false 0 (spans vs)

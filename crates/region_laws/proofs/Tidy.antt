@@ -45,6 +45,15 @@ module _ {V : Type 0} (same : V → V → Bool) (good : V → Bool) where
       let p = parts low r rs k in
       (p .start, p .full, ne _ (p .fine), apart-ok eq r rs (p .next), tidy-ok none eq ne (r .to) rs (p .rest))
 
+-- nothing stands before the first of tidy runs
+pub tidy-before : {V : Type 0} (same : V → V → Bool) (good : V → Bool) (none : V) (low : ℕ) (rs : List (Run V)) (x : ℕ) → tidy same good low rs ≡ true → x < low → at none rs x ≡ none
+tidy-before same good none low [] x k l = refl
+tidy-before same good none low (r ∷ rs) x k l =
+    let p = parts same good low r rs k in
+    let s = p .start in
+    let f = p .full in
+    at-left none r rs x (omega arith) ∙ tidy-before same good none (r .to) rs x (p .rest) (omega arith)
+
 sameBit-refl : (b : Bool) → sameBit b b ≡ true
 sameBit-refl true = refl
 sameBit-refl false = refl
