@@ -9,9 +9,14 @@ use lib.Dec.{ltb, leb}
 use lib.IntN.{ℤ, pos, negsuc}
 use lib.Signed.{ltZ, leZ}
 use Rattle.std.proofs.shelf.Ways.{tells}
-use Rattle.std.proofs.shelf.Tests.{cases-lt, cases-bool, both-ways}
+use Rattle.std.proofs.shelf.Tests.{cases-lt, cond-true, cond-false}
+use Rattle.std.specs.declared.option.Option.{Option}
+use Rattle.std.specs.declared.option.Option.the-variants.{Some, None}
+use Rattle.region_laws.specs.declared.rect.Rect.{Rect}
+use Rattle.region_laws.specs.Laws.{Same}
+use Rattle.region_laws.proofs.Smallest.{nothing}
 use Rattle.region_laws.specs.Boxes.{inside, full, box}
-use Rattle.region.specs.Clipped.{held, heldBox, within, shown, common}
+use Rattle.region.specs.Clipped.{held, heldBox, within, shown, common, clipped}
 use Rattle.region.specs.declared.signed_rect.SignedRect.{SignedRect}
 
 edge-low : (v : ℤ) (m x : ℕ) → x < m → leZ v (pos x) ≡ leb (held v m) x
@@ -43,3 +48,12 @@ held-pixels w h b x y = go (cases-lt x w) (cases-lt y h)
         sym (ap (λ v. v && within b x y) s ∙ simp (e, f, g, k))
     go (inr i) j = let e = held-past (b .right) w x i in let s : shown w h x y ≡ false = grind (arith, tells) in grind (arith, e, s)
     go (inl i) (inr j) = let e = held-past (b .bottom) h y j in let s : shown w h x y ≡ false = grind (arith, tells) in grind (arith, e, s)
+
+-- what clipping answers
+pub clip-some : (w h : ℕ) (b : SignedRect) (c : Rect) → c ≡ heldBox w h b → full c ≡ true → (Some c ≡ clipped w h b) × Same (inside c) (common w h b)
+clip-some w h b c e f =
+    (ap Some e ∙ sym (cond-true (full (heldBox w h b)) (Some (heldBox w h b)) None (ap full (sym e) ∙ f)), λ x y. ap (λ v. inside v x y) e ∙ held-pixels w h b x y)
+
+pub clip-none : (w h : ℕ) (b : SignedRect) (c : Rect) → c ≡ heldBox w h b → full c ≡ false → (None ≡ clipped w h b) × ((x y : ℕ) → common w h b x y ≡ false)
+clip-none w h b c e f =
+    (sym (cond-false (full (heldBox w h b)) (Some (heldBox w h b)) None (ap full (sym e) ∙ f)), λ x y. sym (held-pixels w h b x y) ∙ (ap (λ v. inside v x y) (sym e) ∙ nothing c x y f))

@@ -9,6 +9,7 @@ ghost use Rattle.region_laws.specs.Joined.{single};
 ghost use Rattle.region_laws.specs.Laws.{Same};
 ghost use Rattle.region.specs.Clipped.{sized, within, shown, held, heldBox, clipped, common};
 ghost use Rattle.region.specs.Lists.{listOf};
+use crate::cover::is_full;
 use crate::display::Display;
 use crate::region::Region;
 use crate::signed_rect::SignedRect;
@@ -58,7 +59,7 @@ impl Display {
             (λ c. Same (inside c) (common (now (self .entry) .width) (now (self .entry) .height) b)) ⌝ }
     {
         let c = self.hold(b);
-        if c.left < c.right && c.top < c.bottom {
+        if is_full(c) {
             return Some(c);
         }
         None
