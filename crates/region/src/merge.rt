@@ -5,7 +5,7 @@ ghost use mathlib.Core.Bool.{Bool, true, false, _||_};
 ghost use lib.ListN.{take, length, getD};
 ghost use Rattle.region_laws.specs.Spans.{spans, extend, First};
 ghost use Rattle.region_laws.specs.Runs.{at, Ok};
-ghost use Rattle.region.specs.Lists.{stripOf};
+ghost use Rattle.region.specs.Making.{stripOf};
 use crate::strip::Strip;
 use region_laws::Rect;
 

@@ -7,7 +7,7 @@ ghost use lib.ListN.{take, drop, length};
 ghost use Rattle.region_laws.specs.Spans.{spans};
 ghost use Rattle.region_laws.specs.Bands.{sameRow, rowBoxes};
 ghost use Rattle.region_laws.specs.Stacked.{lowered, goesOn, stacked, startOfLast};
-ghost use Rattle.region.specs.Lists.{pileOf, stripOf};
+ghost use Rattle.region.specs.Making.{pileOf, stripOf};
 use crate::pile::Pile;
 use crate::strip::Strip;
 use region_laws::Rect;

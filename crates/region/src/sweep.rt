@@ -9,7 +9,7 @@ ghost use Rattle.region_laws.specs.Spans.{rowAt, Plain};
 ghost use Rattle.region_laws.specs.Bands.{banded as allBanded};
 ghost use Rattle.region_laws.specs.Listed.{high};
 ghost use Rattle.region_laws.specs.Joined.{union};
-ghost use Rattle.region.specs.Lists.{pileOf};
+ghost use Rattle.region.specs.Making.{pileOf};
 use crate::merge::merge;
 use crate::merge::no_row;
 use crate::pile::Pile;

@@ -7,8 +7,8 @@ use mathlib.Core.Path.{_≡_, refl, sym, ap, _∙_, subst}
 use mathlib.Core.Logic.{_≢_, _⊎_, inl, inr}
 use mathlib.Core.Bool.{Bool, true, false, cond, not, _&&_, _||_}
 use lib.Dec.{eqb, ltb, leb}
-use lib.ListN.{length, getD, drop}
-use Rattle.std.proofs.shelf.Lists.{at-drop-more, at-drop-all}
+use lib.ListN.{length, getD, take, drop}
+use Rattle.std.proofs.shelf.Lists.{at-drop-more, at-drop-all, take-more}
 use Rattle.std.proofs.shelf.Ways.{tells}
 use Rattle.std.proofs.shelf.Tests.{cases-lt, and-parts, leb-true, cond-both, cond-true, false≢true}
 use Rattle.region_laws.specs.Boxes.{Places, noBox, inside}
@@ -106,7 +106,7 @@ bitSum f y x b = cond b (f x y) 0
 abbrev rowSum : (ℕ → ℕ → ℕ) → ℕ → Row → ℕ
 rowSum f y r = weigh false (bitSum f y) (λ x. refl) r
 
-list-append : (f : ℕ → ℕ → ℕ) (xs ys : List Rect) → listSum f (xs ++ ys) ≡ listSum f xs + listSum f ys
+pub list-append : (f : ℕ → ℕ → ℕ) (xs ys : List Rect) → listSum f (xs ++ ys) ≡ listSum f xs + listSum f ys
 list-append f [] ys = omega arith
 list-append f (b ∷ bs) ys = let h = list-append f bs ys in omega arith
 
@@ -233,3 +233,16 @@ area-left bs i h = at-drop-more area bs i noBox h
 
 pub area-done : (bs : List Rect) (i : ℕ) → length bs ≤ i → area (drop i bs) ≡ 0
 area-done bs i h = at-drop-all area bs i h
+
+-- a box more, as a loop over the boxes has it
+pub list-more : (f : ℕ → ℕ → ℕ) (bs : List Rect) (i : ℕ) → i < length bs → listSum f (take (i + 1) bs) ≡ listSum f (take i bs) + boxSum f (getD bs i noBox)
+list-more f bs i h =
+    let e = ap (listSum f) (take-more bs i noBox h) in
+    let a = list-append f (take i bs) (getD bs i noBox ∷ []) in
+    omega arith
+
+-- each box of a list that lies in a display lies in it
+pub box-in : (bs : List Rect) (w h i : ℕ) → Fits-in w h bs → i < length bs → (getD bs i noBox .right ≤ w) × (getD bs i noBox .bottom ≤ h)
+box-in [] w h i f l = absurd (omega arith)
+box-in (b ∷ bs) w h zero f l = let p = f .0 in let q = f .1 in (omega arith, omega arith)
+box-in (b ∷ bs) w h (suc i) f l = let p = f .0 in let q = f .1 in box-in bs w h i (omega arith, omega arith) (omega arith)

@@ -1,4 +1,4 @@
--- The laws of a join. Nothing but this file opens `standIn`.
+-- The laws of a join. But for the worked examples nothing opens `standIn` outside this file.
 use Prim.Native.Nat.{ℕ, _<_, _≤_, _+_}
 use native.Mathlib.Omega.{arith}
 use mathlib.Core.List.{List, [], _∷_, _++_}
@@ -134,3 +134,7 @@ both-inside xs ys b k m e f =
     let g : cover (xs ++ ys) ≡ b = from-append noBox xs ys ∙ sym e in
     let s = cover-sound (xs ++ ys) (all-append Sound xs ys (banded-all xs k) (banded-all ys m)) (ap full g ∙ f) in
     subst (λ (c : Rect). (c .right ≤ farthest) × (c .bottom ≤ farthest)) g (s .right, s .bottom)
+
+-- what both parts keep inside a display, a join keeps
+pub joined-in : (xs ys : List Rect) (w h : ℕ) → banded xs ≡ true → banded ys ≡ true → Within (covers xs) (inside (box 0 0 w h)) → Within (covers ys) (inside (box 0 0 w h)) → Within (covers (joined xs ys)) (inside (box 0 0 w h))
+joined-in xs ys w h k m p q = joined-least xs ys k m (box 0 0 w h) p q

@@ -1,7 +1,7 @@
 use borrow.Author.Needs.{needs}
 use native.Mathlib.Omega.{arith}
 use Rattle.region_laws.specs.Spans.{First}
-use Rattle.region.specs.Lists.{stripOf}
+use Rattle.region.specs.Making.{stripOf}
 use Rattle.region_laws.proofs.Woven.{Woven, woven-left, woven-right, woven-all}
 use Rattle.region.proofs.merge.merge.Needs as need
 

@@ -1,6 +1,6 @@
 use Prim.Native.Nat.{_+_, _-_, _≤_}
 use lib.ListN.{length}
-use Rattle.region.specs.Lists.{stripOf}
+use Rattle.region.specs.Making.{stripOf}
 use Rattle.region_laws.proofs.Woven.{Woven}
 use Rattle.region.proofs.merge.merge.Given as given
 

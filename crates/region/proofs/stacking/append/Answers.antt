@@ -9,7 +9,7 @@ use lib.Dec.{leb}
 use lib.ListN.{length}
 use Rattle.std.proofs.shelf.Tests.{le-leb, lt-leb}
 use Rattle.region_laws.specs.Stacked.{goesOn}
-use Rattle.region.specs.Lists.{pileOf, stripOf}
+use Rattle.region.specs.Making.{pileOf, stripOf}
 use Rattle.region_laws.proofs.Stacking.{stacked-on, stacked-under, fits-none, fits-on, fits-under, strip-none, strip-some, length-front, length-span}
 use Rattle.region.proofs.stacking.append.Needs as need
 

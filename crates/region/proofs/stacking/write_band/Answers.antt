@@ -2,7 +2,7 @@ use borrow.Author.Needs.{needs}
 use native.Mathlib.Omega.{arith}
 use mathlib.Core.Path.{_∙_}
 use mathlib.Core.List.{append-nil}
-use Rattle.region.specs.Lists.{pileOf}
+use Rattle.region.specs.Making.{pileOf}
 use Rattle.region_laws.proofs.Stacking.{band-more}
 use Rattle.region.proofs.stacking.write_band.Needs as need
 

@@ -4,7 +4,7 @@ use Prim.Native.Nat.{_+_}
 use lib.ListN.{take}
 use Rattle.region_laws.specs.Bands.{rowBoxes}
 use Rattle.region_laws.specs.Spans.{spans}
-use Rattle.region.specs.Lists.{pileOf}
+use Rattle.region.specs.Making.{pileOf}
 use Rattle.region.proofs.stacking.write_band.Given as given
 
 abbrev pub Inv-loop-k : given.InvT-loop-k

@@ -8,7 +8,7 @@ use Rattle.std.proofs.shelf.Lists.{length-take, length-drop}
 use Rattle.region_laws.specs.Boxes.{noBox}
 use Rattle.region_laws.specs.Listed.{high}
 use Rattle.region_laws.specs.Stacked.{stacked, startOfLast}
-use Rattle.region.specs.Lists.{pileOf, stripOf}
+use Rattle.region.specs.Making.{pileOf, stripOf}
 use Rattle.region_laws.proofs.Rows.{row-fine}
 use Rattle.region_laws.proofs.Strips.{plain-less}
 use Rattle.region_laws.proofs.Swept.{Swept, swept-turn, swept-at, swept-all, swept-full}

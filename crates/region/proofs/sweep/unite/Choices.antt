@@ -2,7 +2,7 @@ use Prim.Native.Nat.{ℕ, _<_, _≤_, _-_}
 use lib.ListN.{length, getD}
 use Rattle.region_laws.specs.Boxes.{noBox}
 use Rattle.region_laws.proofs.Swept.{Swept}
-use Rattle.region.specs.Lists.{pileOf}
+use Rattle.region.specs.Making.{pileOf}
 use Rattle.region.proofs.sweep.unite.Given as given
 
 abbrev pub Inv-loop-y : given.InvT-loop-y

@@ -8,7 +8,8 @@ use lib.ListN.{length, take}
 use Rattle.region_laws.specs.declared.rect.Rect.{Rect}
 use Rattle.region_laws.specs.Bands.{banded}
 use Rattle.region_laws.specs.Joined.{joined, union}
-use Rattle.region.specs.Lists.{listOf, pileOf}
+use Rattle.region.specs.Lists.{listOf}
+use Rattle.region.specs.Making.{pileOf}
 use Rattle.region.specs.declared.region.Region.{Region}
 use Rattle.region_laws.proofs.Laws.{joins-at, unites, join-laws}
 use Rattle.region_laws.proofs.Stacking.{length-front}
