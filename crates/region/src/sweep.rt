@@ -10,12 +10,9 @@ ghost use Rattle.region_laws.specs.Bands.{banded as allBanded};
 ghost use Rattle.region_laws.specs.Listed.{high};
 ghost use Rattle.region_laws.specs.Joined.{union};
 ghost use Rattle.region.specs.Making.{pileOf};
-use crate::merge::merge;
-use crate::merge::no_row;
 use crate::pile::Pile;
 use crate::slab::Slab;
-use crate::stacking::append;
-use crate::stacking::no_bands;
+use crate::strip::Strip;
 use region_laws::Rect;
 
 // Where the boxes whose bottom is past y begin; those before `from` are known to lie above y.
@@ -114,8 +111,8 @@ pub fn unite(xs: &[Rect], ys: &[Rect]) -> Option<Pile>
     ensures { λ r. ⌜ Cases r (32 < length (union (now (xs .entry)) (now (ys .entry)))) (λ p. pileOf p ≡ union (now (xs .entry)) (now (ys .entry))) ⌝ }
 {
     let end = lowest(xs).max(lowest(ys));
-    let mut p = no_bands();
-    let mut row = no_row();
+    let mut p = Pile::new();
+    let mut row = Strip::new();
     let mut y = 0;
     let mut i = 0;
     let mut j = 0;
@@ -126,8 +123,8 @@ pub fn unite(xs: &[Rect], ys: &[Rect]) -> Option<Pile>
         j = b.from;
         let k = a.to;
         let l = b.to;
-        merge(&mut row, &xs[i..k], &ys[j..l]);
-        if !append(&mut p, &row, y, b.edge) {
+        row.merge(&xs[i..k], &ys[j..l]);
+        if !p.append(&row, y, b.edge) {
             return None;
         }
         y = b.edge;

@@ -26,7 +26,7 @@ returns-then-not-append c =
     let t = swept-turn (c .args .xs .now) (c .args .ys .now)
     (take (c .slab-at-a .result .to - c .slab-at-a .result .from) (drop (c .slab-at-a .result .from) (c .args .xs .now)))
     (take (c .slab-at-b .result .to - c .slab-at-b .result .from) (drop (c .slab-at-b .result .from) (c .args .ys .now)))
-    (c .loop-y .y) (c .slab-at-b .result .edge) (pileOf (c .loop-y .p)) (c .loop-y .p .start) (stripOf (c .merge .last .s)) (c .pre .first) (c .pre .second)
+    (c .loop-y .y) (c .slab-at-b .result .edge) (pileOf (c .loop-y .p)) (c .loop-y .p .start) (stripOf (c .merge .last .self)) (c .pre .first) (c .pre .second)
     (plain-less (c .args .xs .now) (c .loop-y .y) (c .slab-at-a .result .edge) (c .slab-at-b .result .edge) (c .slab-at-b .ensures .until) (c .slab-at-a .ensures .plain))
     (c .slab-at-b .ensures .plain) (c .slab-at-b .ensures .past) (c .slab-at-a .ensures .row) (c .slab-at-b .ensures .row) (c .merge .ensures .tidy) (c .merge .ensures .set) (c .loop-y .inv .0) in
     swept-full (c .args .xs .now) (c .args .ys .now) (c .slab-at-b .result .edge) _ _ 32 t
@@ -38,11 +38,11 @@ loop-y-again c =
     let t = swept-turn (c .args .xs .now) (c .args .ys .now)
     (take (c .slab-at-a .result .to - c .slab-at-a .result .from) (drop (c .slab-at-a .result .from) (c .args .xs .now)))
     (take (c .slab-at-b .result .to - c .slab-at-b .result .from) (drop (c .slab-at-b .result .from) (c .args .ys .now)))
-    (c .loop-y .y) (c .slab-at-b .result .edge) (pileOf (c .loop-y .p)) (c .loop-y .p .start) (stripOf (c .merge .last .s)) (c .pre .first) (c .pre .second)
+    (c .loop-y .y) (c .slab-at-b .result .edge) (pileOf (c .loop-y .p)) (c .loop-y .p .start) (stripOf (c .merge .last .self)) (c .pre .first) (c .pre .second)
     (plain-less (c .args .xs .now) (c .loop-y .y) (c .slab-at-a .result .edge) (c .slab-at-b .result .edge) (c .slab-at-b .ensures .until) (c .slab-at-a .ensures .plain))
     (c .slab-at-b .ensures .plain) (c .slab-at-b .ensures .past) (c .slab-at-a .ensures .row) (c .slab-at-b .ensures .row) (c .merge .ensures .tidy) (c .merge .ensures .set) (c .loop-y .inv .0) in
     let e = c .if-not-append .left in (
-      swept-at (c .args .xs .now) (c .args .ys .now) (c .slab-at-b .result .edge) _ (pileOf (c .append .last .p)) _ (c .append .last .p .start) t
+      swept-at (c .args .xs .now) (c .args .ys .now) (c .slab-at-b .result .edge) _ (pileOf (c .append .last .self)) _ (c .append .last .self .start) t
           (c .append .ensures .list ∙ cond-true (c .append .result) _ _ e) (c .append .ensures .start ∙ cond-true (c .append .result) _ _ e),
       (let u = c .slab-at-b .ensures .until in let v = c .slab-at-a .ensures .until in omega arith),
       (let o = c .slab-at-a .ensures .order in let w = c .slab-at-a .ensures .within in omega arith),

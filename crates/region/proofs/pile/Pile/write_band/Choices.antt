@@ -5,9 +5,9 @@ use lib.ListN.{take}
 use Rattle.region_laws.specs.Bands.{rowBoxes}
 use Rattle.region_laws.specs.Spans.{spans}
 use Rattle.region.specs.Making.{pileOf}
-use Rattle.region.proofs.stacking.write_band.Given as given
+use Rattle.region.proofs.pile.Pile.write_band.Given as given
 
 abbrev pub Inv-loop-k : given.InvT-loop-k
 Inv-loop-k l =
-    (pileOf (l .p) ≡ pileOf (l .entry .p) ++ rowBoxes (l .top) (l .bottom) (spans (take (l .k) (l .row .boxes))))
-    × (l .p .count ≡ l .entry .p .count + l .k)
+    (pileOf (l .self) ≡ pileOf (l .entry .self) ++ rowBoxes (l .top) (l .bottom) (spans (take (l .k) (l .row .boxes))))
+    × (l .self .count ≡ l .entry .self .count + l .k)
