@@ -1,4 +1,4 @@
--- every set of pixels of the glass has a banded list
+-- Every set of pixels of a display has a banded list.
 use Prim.Native.Nat.{ℕ, zero, suc, _+_, _-_, _<_, _≤_}
 use native.Mathlib.Omega.{arith}
 use mathlib.Core.List.{List, [], _∷_, _++_, append-assoc}

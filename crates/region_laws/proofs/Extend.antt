@@ -1,3 +1,4 @@
+-- One more span behind the others of a row, and what it does to the row that a list of boxes holds.
 use Prim.Native.Nat.{ℕ, zero, suc, _+_, _-_, _*_, _<_, _≤_, max}
 use native.Mathlib.Omega.{arith}
 use mathlib.Core.List.{List, [], _∷_, _++_, append-assoc}

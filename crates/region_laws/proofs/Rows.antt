@@ -1,3 +1,4 @@
+-- The boxes of a banded list that have row y hold the row of its bands at y.
 use Prim.Native.Nat.{ℕ, zero, suc, _+_, _-_, _<_, _≤_}
 use native.Mathlib.Omega.{arith}
 use mathlib.Core.List.{List, [], _∷_, _++_, append-assoc}

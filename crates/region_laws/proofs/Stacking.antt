@@ -1,3 +1,4 @@
+-- The steps by which a row is put under the boxes so far: lowered, compared, written box by box.
 use Prim.Native.Nat.{ℕ, zero, suc, _+_, _-_, _*_, _<_, _≤_, max}
 use native.Mathlib.Omega.{arith}
 use native.Mathlib.Nat.{add-assoc}
