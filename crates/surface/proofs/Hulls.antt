@@ -1,12 +1,13 @@
 -- The smallest box, found place by place.
 use Prim.Native.Nat.{ℕ, zero, suc, _<_, _≤_, _+_, _-_, min, max}
+use native.Mathlib.Numerals.{add-one}
 use native.Mathlib.Omega.{arith}
 use mathlib.Core.Path.{_≡_, refl, sym, ap, _∙_}
 use mathlib.Core.Logic.{_⊎_, inl, inr, ⊎-elim}
 use mathlib.Core.Bool.{Bool, true, false, cond, _&&_, _||_}
 use lib.Dec.{ltb, leb, eqb}
 use Rattle.std.specs.declared.option.Option.the-variants.{Some, None}
-use Rattle.std.proofs.shelf.Tests.{cases-lt, cases-eq, cases-bool, both-ways, lt-ltb, le-ltb, ltb-true, ltb-false, leb-true, le-leb, and-parts, and-from, or-right}
+use Rattle.std.proofs.shelf.Tests.{cases-lt, cases-eq, cases-bool, both-ways, lt-ltb, le-ltb, ltb-true, ltb-false, leb-true, le-leb, and-parts, and-from, or-right, cond-true, cond-false}
 use Rattle.std.proofs.shelf.Ways.{tells}
 use Rattle.region_laws.specs.declared.rect.Rect.{Rect}
 use Rattle.region_laws.specs.Boxes.{Places, box, noBox, inside, full, Within, Smallest}
@@ -175,3 +176,19 @@ smallest-fits p b z f s = ⊎-elim
 -- a place outside the smallest box is none of those
 pub outside-smallest : (p : Places) (b : Rect) (x y : ℕ) → Smallest p b → inside b x y ≡ false → p x y ≡ false
 outside-smallest p b x y s e = ⊎-elim (λ h. absurd (both-ways _ e (s .covers x y h))) (λ h. h) (cases-bool (p x y))
+
+-- one place of a row more, which is in p
+pub across-more : (p : Places) (y x : ℕ) (b f g : Rect) → f ≡ across p y x b → p x y ≡ true → g ≡ grown f x y → g ≡ across p y (x + 1) b
+across-more p y x b f g e h i =
+    let at : across p y (suc x) b ≡ grown (across p y x b) x y = cond-true (p x y) _ _ h in
+    i ∙ ap (λ v. grown v x y) e ∙ sym at ∙ ap (λ n. across p y n b) (sym (add-one x))
+
+-- one place of a row more, which is not
+pub across-skip : (p : Places) (y x : ℕ) (b f : Rect) → f ≡ across p y x b → p x y ≡ false → f ≡ across p y (x + 1) b
+across-skip p y x b f e h =
+    let at : across p y (suc x) b ≡ across p y x b = cond-false (p x y) _ _ h in
+    e ∙ sym at ∙ ap (λ n. across p y n b) (sym (add-one x))
+
+-- one row more
+pub hull-more : (p : Places) (w y : ℕ) (f g : Rect) → f ≡ hull p w y → g ≡ across p y w f → g ≡ hull p w (y + 1)
+hull-more p w y f g e h = h ∙ ap (λ v. across p y w v) e ∙ ap (λ n. hull p w n) (sym (add-one y))

@@ -1,0 +1,148 @@
+ghost use mathlib.Core.Path.{_≡_};
+ghost use mathlib.Core.Bool.{Bool, true};
+ghost use Prim.Native.Nat.{ℕ, _*_, _<_, _≤_};
+ghost use lib.IntN.{pos};
+ghost use lib.ListN.{length};
+ghost use Rattle.std.specs.Options.{isSome, Cases as BySome};
+ghost use Rattle.std.specs.Results.{isOk, Cases};
+ghost use Rattle.region_laws.specs.Boxes.{Smallest};
+ghost use Rattle.surface.specs.Damaged.{Damaged};
+ghost use Rattle.surface.specs.Settled.{Settled};
+ghost use Rattle.sheet.specs.Sheets.{accepts, pageOf, told, opening, changed, Turned};
+ghost use Rattle.sheet.specs.Owed.{told-sound};
+use crate::scan::all_solid;
+use crate::scan::difference;
+use crate::scan::page_at;
+use crate::scan::place;
+use crate::sheet::Sheet;
+use pixel::Pixel;
+use region_laws::Rect;
+use surface::Order;
+use surface::OrderRefused;
+use surface::Shelf;
+use surface::Size;
+
+impl<'a, P: Pixel> Sheet<'a, P> {
+    // A sheet that shows the first of n pages of w by h pixels. It is closed where a side is not 1 to 1,024, there are
+    // not 1 to 64 pages, or the memory has not exactly their length.
+    pub fn new(cells: &'a [P], w: u32, h: u32, n: u32) -> Sheet<'a, P>
+        ensures { λ r. ⌜ told (P·Pixel .solid) r ≡ opening (P·Pixel .solid) (now (cells .entry)) w h n ⌝ }
+    {
+        if w >= 1 && w <= 1024 && h >= 1 && h <= 1024 && n >= 1 && n <= 64 {
+            let area = (w * h) as usize;
+            if cells.len() == n as usize * area {
+                return Sheet {
+                    cells,
+                    width: w,
+                    height: h,
+                    pages: n,
+                    page: 0,
+                };
+            }
+        }
+        Sheet {
+            cells: &cells[0..0],
+            width: 0,
+            height: 0,
+            pages: 1,
+            page: 0,
+        }
+    }
+
+    // The pixels of page p.
+    fn page_of(&self, p: u32) -> &[P]
+        requires { ⌜ p < now self .pages ⌝ }
+        ensures is { λ r. ⌜ now r ≡ pageOf (now (self .entry)) p ⌝ }
+        ensures long { λ r. ⌜ length (now r) ≡ now (self .entry) .width * now (self .entry) .height ⌝ }
+    {
+        page_at(
+            self.cells,
+            (self.width * self.height) as usize,
+            self.pages as usize,
+            p as usize,
+        )
+    }
+}
+
+// The page that an order asks for, of n pages.
+fn asked(o: Order, n: u32) -> Option<u32>
+    requires { ⌜ n ≤ 64 ⌝ }
+    ensures taken { λ r. ⌜ isSome r ≡ accepts n o ⌝ }
+    ensures shows { λ r. ⌜ BySome r (Unit {0}) (λ p. (pos p ≡ o .a) × (p < n)) ⌝ }
+{
+    if o.act == 1 && o.b == 0 && o.a >= 0 && o.a < n as i32 {
+        Some(o.a as u32)
+    } else {
+        None
+    }
+}
+
+pub impl<'a, P: Pixel> Shelf<P> for Sheet<'a, P> as SheetShelf {
+    ghost tells = { told };
+
+    ghost sound = { told-sound };
+
+    ghost becomes = { λ s k o d t. Turned (P·Pixel .equal) s o d t };
+
+    fn count(&self) -> u32 {
+        1
+    }
+
+    fn size(&self, k: u32) -> Option<Size> {
+        if k == 0 {
+            Some(Size {
+                width: self.width,
+                height: self.height,
+            })
+        } else {
+            None
+        }
+    }
+
+    fn pixel(&self, k: u32, x: u32, y: u32) -> Option<P> {
+        if k == 0 && x < self.width && y < self.height {
+            let at = place(self.width, self.height, x, y);
+            Some(self.page_of(self.page)[at])
+        } else {
+            None
+        }
+    }
+
+    fn solid(&self, k: u32) -> Option<Rect> {
+        if k != 0 {
+            return None;
+        }
+        if all_solid(self.page_of(self.page)) {
+            Some(Rect {
+                left: 0,
+                top: 0,
+                right: self.width,
+                bottom: self.height,
+            })
+        } else {
+            Some(Rect::NONE)
+        }
+    }
+
+    fn order(&mut self, k: u32, o: Order) -> Result<Rect, OrderRefused>
+        ensures taken { λ r. ⌜ isOk r ≡ told (P·Pixel .solid) (now (self .entry)) .takes k o ⌝ }
+        ensures made { λ r. ⌜ Cases r (λ d. Turned (P·Pixel .equal) (now (self .entry)) o d (now (self .exit))) (λ _. now (self .exit) ≡ now (self .entry)) ⌝ }
+        ensures damaged { λ r. ⌜ Cases r (λ d. Damaged (told (P·Pixel .solid) (now (self .entry))) (told (P·Pixel .solid) (now (self .exit))) k d) (λ _. Unit {0}) ⌝ }
+        ensures smallest { λ r. ⌜ Cases r (λ d. Smallest (changed (P·Pixel .equal) (now (self .entry)) (now (self .exit) .page)) d) (λ _. Unit {0}) ⌝ }
+        ensures settled { λ _. ⌜ Settled (told (P·Pixel .solid)) (λ s k o d t. Turned (P·Pixel .equal) s o d t) ⌝ }
+    {
+        let w = self.width;
+        let h = self.height;
+        if k != 0 || w == 0 || h == 0 {
+            return Err(OrderRefused);
+        }
+        match asked(o, self.pages) {
+            Some(next) => {
+                let damage = difference(self.page_of(self.page), self.page_of(next), w, h);
+                self.page = next;
+                Ok(damage)
+            }
+            None => Err(OrderRefused),
+        }
+    }
+}
