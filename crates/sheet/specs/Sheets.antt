@@ -3,18 +3,16 @@ use Prim.Native.Nat.{ℕ, _*_}
 use mathlib.Core.Path.{_≡_}
 use mathlib.Core.Bool.{Bool, true, false, cond, _&&_}
 use mathlib.Core.List.{List, [], _∷_}
-use lib.Dec.{ltb, leb, eqb}
+use lib.Dec.{leb, eqb}
 use lib.IntN.{ℤ, pos}
 use lib.ListN.{length}
 use lib.Signed.{leZ, ltZ}
-use Rattle.std.specs.declared.option.Option.{Option}
-use Rattle.std.specs.declared.option.Option.the-variants.{Some, None}
 use Rattle.region_laws.specs.declared.rect.Rect.{Rect}
-use Rattle.region_laws.specs.Boxes.{Places, box, noBox}
+use Rattle.region_laws.specs.Boxes.{Places}
 use Rattle.surface.specs.declared.order.Order.{Order}
-use Rattle.surface.specs.declared.size.Size.{Size}
-use Rattle.surface.specs.Told.{Told, on, opened}
+use Rattle.surface.specs.Told.{Told}
 use Rattle.surface.specs.Hull.{hull, cut}
+use Rattle.surface.specs.Single.{single}
 use Rattle.sheet.specs.declared.sheet.Sheet.{Sheet}
 use Rattle.sheet.specs.Pages.{nthPage, pixelAt, each, differs}
 
@@ -22,19 +20,9 @@ use Rattle.sheet.specs.Pages.{nthPage, pixelAt, each, differs}
 abbrev pub accepts : ℕ → Order → Bool
 accepts n o = (leZ (pos 1) (o .act) && leZ (o .act) (pos 1)) && ((leZ (pos 0) (o .b) && leZ (o .b) (pos 0)) && (leZ (pos 0) (o .a) && ltZ (o .a) (pos n)))
 
--- a sheet is a shelf of one surface
-abbrev pub sides : ℕ → ℕ → ℕ → Option Size
-sides w h k = cond (eqb k 0) (Some (record { width = w; height = h })) None
-
 -- what a sheet of w by h and n pages tells, while it shows this page
 abbrev pub sheet : {P : Type 0} → (P → Bool) → ℕ → ℕ → ℕ → List P → Told P
-sheet hard w h n page = record {
-  count = 1;
-  size = sides w h;
-  pixel = λ k x y. cond (on (sides w h k) x y) (pixelAt page w x y) None;
-  solid = λ k. cond (eqb k 0) (Some (cond (each hard page) (box 0 0 w h) noBox)) None;
-  takes = λ k o. opened (sides w h k) && accepts n o;
-}
+sheet hard w h n page = single w h (pixelAt page w) (each hard page) (accepts n)
 
 -- page p of a sheet, and the page that it shows
 abbrev pub pageOf : {P : Type 0} → Sheet P → ℕ → List P

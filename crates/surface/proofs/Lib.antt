@@ -1,3 +1,3 @@
-pub mod Pairs
 pub mod Hulls
-pub mod Solids
+pub mod Pairs
+pub mod Singles

@@ -22,7 +22,7 @@ use Rattle.surface.specs.Damaged.{Damaged}
 use Rattle.surface.specs.Beside.{part, from, beside, Alike, Parts}
 use Rattle.surface.specs.Paired.{paired, Becomes, Went, PairBecomes}
 use Rattle.surface.specs.Settled.{Settled, Same}
-use Rattle.surface.specs.Owed.{by-part}
+use Rattle.surface.specs.PairOwed.{by-part}
 
 pub first-part : (n k : ℕ) → k < n → part n k ≡ First k
 first-part n k h = by-part n k (λ w. w ≡ First k) (λ i. refl) (λ i j. absurd (omega arith)) (λ i j. absurd (omega arith))

@@ -1,8 +1,10 @@
 pub mod Told
 pub mod Sound
 pub mod Damaged
+pub mod Settled
+pub mod Hull
+pub mod Single
+pub mod SingleOwed
 pub mod Beside
 pub mod Paired
-pub mod Hull
-pub mod Settled
-pub mod Owed
+pub mod PairOwed

@@ -7,7 +7,7 @@ ghost use Rattle.surface.specs.Damaged.{Damaged};
 ghost use Rattle.surface.specs.Beside.{part as place, Parts};
 ghost use Rattle.surface.specs.Paired.{paired, PairBecomes};
 ghost use Rattle.surface.specs.Settled.{Settled};
-ghost use Rattle.surface.specs.Owed.{beside-sound};
+ghost use Rattle.surface.specs.PairOwed.{beside-sound};
 use crate::order::Order;
 use crate::order::OrderRefused;
 use crate::shelf::Shelf;

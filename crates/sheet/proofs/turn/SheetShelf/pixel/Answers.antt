@@ -7,7 +7,7 @@ use Rattle.std.proofs.shelf.Maps.{nth-read}
 use Rattle.std.specs.shelf.Maps.{nth}
 use Rattle.std.specs.declared.option.Option.the-variants.{Some}
 use Rattle.sheet.specs.Sheets.{shown}
-use Rattle.sheet.specs.Owed.{on-place}
+use Rattle.surface.specs.SingleOwed.{on-place}
 use Rattle.sheet.proofs.turn.SheetShelf.pixel.Needs as need
 
 pub returns-then-y-self : need.returns-then-y-self

@@ -3,7 +3,7 @@ use mathlib.Core.Bool.{true}
 use lib.Dec.{eqb}
 use native.Mathlib.Omega.{arith}
 use Rattle.std.proofs.shelf.Tests.{eq-eqb}
-use Rattle.surface.proofs.Solids.{hides-told}
+use Rattle.surface.proofs.Singles.{hides-told}
 use Rattle.std.specs.declared.option.Option.the-variants.{Some}
 use Rattle.region_laws.specs.Boxes.{box}
 use Rattle.sheet.specs.Pages.{each}
