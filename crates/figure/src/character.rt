@@ -1,0 +1,66 @@
+ghost use mathlib.Core.Path.{_≡_};
+ghost use mathlib.Core.Bool.{true};
+ghost use Prim.Native.Nat.{_<_};
+ghost use lib.IntN.{ℤ};
+ghost use Rattle.std.specs.Options.{isSome, Cases};
+ghost use Rattle.figure.specs.Characters.{inCell, inRange, row, glyph, read, tidy};
+use crate::reading::Reading;
+
+// What one cell of a figure shows.
+#[derive(Clone, Copy, PartialEq, Eq)]
+pub enum Character {
+    Digit(u8),
+    Minus,
+    Blank,
+}
+
+// The character in cell i, counted from 0 at the left.
+pub fn character_in(v: Reading, i: u32) -> Character
+    requires { ⌜ i < 4 ⌝ }
+    ensures shows { λ r. ⌜ r ≡ inCell (v .value) i ⌝ }
+    ensures known { λ r. ⌜ glyph r < 12 ⌝ }
+{
+    let n = v.value.unsigned_abs();
+    let weight = match i {
+        0 => 1000,
+        1 => 100,
+        2 => 10,
+        _ => 1,
+    };
+    if weight <= n || i == 3 {
+        Character::Digit((n / weight % 10) as u8)
+    } else if v.value < 0 && (weight <= n * 10 || i == 2) {
+        Character::Minus
+    } else {
+        Character::Blank
+    }
+}
+
+impl Reading {
+    // The number, if four characters can show it.
+    pub fn new(value: i32) -> Option<Reading>
+        ensures fits { λ r. ⌜ isSome r ≡ inRange value ⌝ }
+        ensures kept { λ r. ⌜ Cases r (Unit {0}) (λ v. v .value ≡ value) ⌝ }
+    {
+        if value >= -999 && value <= 9999 {
+            Some(Reading { value })
+        } else {
+            None
+        }
+    }
+
+    // The four characters that show the number, from the left.
+    pub fn characters(self) -> [Character; 4]
+        ensures named { λ r. ⌜ r ≡ row (self .value) ⌝ }
+        ensures back { λ r. ⌜ read r ≡ self .value ⌝ }
+        ensures apart { λ r. ⌜ ((v : ℤ) → inRange v ≡ true → row v ≡ r → v ≡ self .value) ⌝ }
+        ensures aligned { λ r. ⌜ tidy r ≡ true ⌝ }
+    {
+        [
+            character_in(self, 0),
+            character_in(self, 1),
+            character_in(self, 2),
+            character_in(self, 3),
+        ]
+    }
+}

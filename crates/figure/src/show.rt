@@ -1,0 +1,121 @@
+ghost use mathlib.Core.Path.{_≡_};
+ghost use mathlib.Core.Bool.{Bool, true};
+ghost use Prim.Native.Nat.{ℕ};
+ghost use lib.IntN.{pos};
+ghost use Rattle.std.specs.Options.{isSome, Cases as BySome};
+ghost use Rattle.std.specs.Results.{isOk, Cases};
+ghost use Rattle.region_laws.specs.Boxes.{Smallest};
+ghost use Rattle.surface.specs.Damaged.{Damaged};
+ghost use Rattle.surface.specs.Settled.{Settled};
+ghost use Rattle.figure.specs.Figures.{accepts, figure as told-figure, fitting, told, changed, Showed};
+ghost use Rattle.figure.specs.Owed.{told-sound};
+use crate::cells::damage;
+use crate::cells::has_ink;
+use crate::figure::Figure;
+use crate::reading::Reading;
+use pixel::Pixel;
+use region_laws::Rect;
+use surface::Order;
+use surface::OrderRefused;
+use surface::Shelf;
+use surface::Size;
+
+impl<P: Pixel> Figure<P> {
+    // A figure that shows 0. It is closed where the scale is not 1 to 8.
+    pub fn new(scale: u32, ink: P, paper: P) -> Figure<P>
+        ensures { λ r. ⌜ told (P·Pixel .solid) r ≡ told-figure (P·Pixel .solid) (fitting scale) (pos 0) ink paper ⌝ }
+    {
+        let scale = if scale <= 8 { scale } else { 0 };
+        Figure {
+            scale,
+            shown: Reading { value: 0 },
+            ink,
+            paper,
+        }
+    }
+}
+
+// The number that an order asks for.
+fn asked(o: Order) -> Option<Reading>
+    ensures taken { λ r. ⌜ isSome r ≡ accepts o ⌝ }
+    ensures shows { λ r. ⌜ BySome r (Unit {0}) (λ v. v .value ≡ o .a) ⌝ }
+{
+    if o.act == 3 && o.b == 0 {
+        Reading::new(o.a)
+    } else {
+        None
+    }
+}
+
+pub impl<P: Pixel> Shelf<P> for Figure<P> as FigureShelf {
+    ghost tells = { told };
+
+    ghost sound = { told-sound };
+
+    ghost becomes = { λ s k o d t. Showed s o d t };
+
+    fn count(&self) -> u32 {
+        1
+    }
+
+    fn size(&self, k: u32) -> Option<Size> {
+        if k == 0 {
+            Some(Size {
+                width: 15 * self.scale,
+                height: 5 * self.scale,
+            })
+        } else {
+            None
+        }
+    }
+
+    fn pixel(&self, k: u32, x: u32, y: u32) -> Option<P> {
+        let z = self.scale;
+        if k == 0 && x < 15 * z && y < 5 * z {
+            Some(if has_ink(self.shown, x / z, y / z) {
+                self.ink
+            } else {
+                self.paper
+            })
+        } else {
+            None
+        }
+    }
+
+    fn solid(&self, k: u32) -> Option<Rect> {
+        if k != 0 {
+            return None;
+        }
+        if self.ink.is_solid() && self.paper.is_solid() {
+            Some(Rect {
+                left: 0,
+                top: 0,
+                right: 15 * self.scale,
+                bottom: 5 * self.scale,
+            })
+        } else {
+            Some(Rect::NONE)
+        }
+    }
+
+    fn order(&mut self, k: u32, o: Order) -> Result<Rect, OrderRefused>
+        ensures taken { λ r. ⌜ isOk r ≡ told (P·Pixel .solid) (now (self .entry)) .takes k o ⌝ }
+        ensures made { λ r. ⌜ Cases r (λ d. Showed (now (self .entry)) o d (now (self .exit))) (λ _. now (self .exit) ≡ now (self .entry)) ⌝ }
+        ensures damaged { λ r. ⌜ Cases r (λ d. Damaged (told (P·Pixel .solid) (now (self .entry))) (told (P·Pixel .solid) (now (self .exit))) k d) (λ _. Unit {0}) ⌝ }
+        ensures smallest { λ r. ⌜ Cases r (λ d. Smallest (changed (now (self .entry)) (o .a)) d) (λ _. Unit {0}) ⌝ }
+        ensures settled { λ _. ⌜ Settled (told (P·Pixel .solid)) (λ s k o d t. Showed s o d t) ⌝ }
+    {
+        let z = self.scale;
+        if k != 0 || z == 0 {
+            return Err(OrderRefused);
+        }
+        match asked(o) {
+            Some(next) => {
+                let hull = damage(self.shown, next, z);
+                self.shown = next;
+                Ok(hull)
+            }
+            None => Err(OrderRefused),
+        }
+    }
+}
