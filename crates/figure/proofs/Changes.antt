@@ -164,7 +164,7 @@ show-damaged hard z old new dark light k k0 pos =
     (λ x y i j e. ap (λ t. Some (cond t dark light)) (kept-ink old new z x y pos i e))
 
 -- an order leaves a figure no choice
-pub show-settled : {P : Type 0} (hard : P → Bool) → Settled (told hard) (λ (s : Figure P) k o b t. Showed s o b t)
+pub show-settled : {P : Type 0} (hard : P → Bool) → Settled (told {P = P} hard) Showed
 show-settled hard s t u k o b c p q = record {
   told = ap (λ v. figure hard v (t .shown .value) (t .ink) (t .paper)) (p .scale ∙ sym (q .scale)) ∙ ap (λ v. figure hard (u .scale) v (t .ink) (t .paper)) (p .number ∙ sym (q .number))
       ∙ ap (λ v. figure hard (u .scale) (u .shown .value) v (t .paper)) (p .ink ∙ sym (q .ink)) ∙ ap (λ v. figure hard (u .scale) (u .shown .value) (u .ink) v) (p .paper ∙ sym (q .paper));

@@ -4,12 +4,12 @@ use native.Mathlib.Omega.{arith}
 use mathlib.Core.Path.{_≡_, refl, sym, ap, _∙_}
 use mathlib.Core.Logic.{_⊎_, inl, inr, ⊎-elim}
 use mathlib.Core.Bool.{Bool, true, false}
-use lib.Dec.{leb}
+use lib.Dec.{leb, eqb}
 use lib.IntN.{ℤ, pos, negsuc, negℤ}
 use lib.Signed.{_≤ℤ_}
 use Rattle.std.proofs.shelf.Signed.{ints}
 use Rattle.std.proofs.shelf.Bits.{div-add-mod'}
-use Rattle.std.proofs.shelf.Tests.{cases-lt, le-leb, lt-leb, leb-true, and-parts, and-from}
+use Rattle.std.proofs.shelf.Tests.{cases-lt, le-leb, lt-leb, leb-true, ne-eqb, and-parts, and-from}
 use Rattle.figure.specs.Characters.{inRange, row, read, tidy}
 
 pub record Good (v : ℤ) : Type 0 where
@@ -51,19 +51,22 @@ good-pos n h = ⊎-elim
     let q : leb 100 n ≡ false = lt-leb _ _ (omega arith) in
     let r : leb 10 n ≡ true = le-leb _ _ (omega arith) in
     let e : number 0 0 (n / 10 % 10) (n / 1 % 10) ≡ n = omega arith in
-    record { back = simp (p, q, r) (ap pos e); aligned = simp (p, q, r) })
+    let z : eqb (n / 10 % 10) 0 ≡ false = ne-eqb _ _ (λ i. omega arith) in
+    record { back = simp (p, q, r) (ap pos e); aligned = simp (p, q, r, z) })
     (⊎-elim
     (λ a.
     let p : leb 1000 n ≡ false = lt-leb _ _ (omega arith) in
     let q : leb 100 n ≡ true = le-leb _ _ (omega arith) in
     let r : leb 10 n ≡ true = le-leb _ _ (omega arith) in
     let e : number 0 (n / 100 % 10) (n / 10 % 10) (n / 1 % 10) ≡ n = omega arith in
-    record { back = simp (p, q, r) (ap pos e); aligned = simp (p, q, r) })
+    let z : eqb (n / 100 % 10) 0 ≡ false = ne-eqb _ _ (λ i. omega arith) in
+    record { back = simp (p, q, r) (ap pos e); aligned = simp (p, q, r, z) })
     (λ a.
     let p : leb 1000 n ≡ true = le-leb _ _ (omega arith) in
     let q : leb 100 n ≡ true = le-leb _ _ (omega arith) in
     let r : leb 10 n ≡ true = le-leb _ _ (omega arith) in
-    record { back = simp (p, q, r) (ap pos (four n h)); aligned = simp (p, q, r) })))
+    let z : eqb (n / 1000 % 10) 0 ≡ false = ne-eqb _ _ (λ i. omega arith) in
+    record { back = simp (p, q, r) (ap pos (four n h)); aligned = simp (p, q, r, z) })))
     (sizes n)
 
 good-neg : (m : ℕ) → m ≤ 998 → Good (negsuc m)
@@ -80,14 +83,16 @@ good-neg m h = ⊎-elim
     let q : leb 100 (suc m) ≡ false = lt-leb _ _ (omega arith) in
     let r : leb 10 (suc m) ≡ true = le-leb _ _ (omega arith) in
     let e : number 0 0 (suc m / 10 % 10) (suc m / 1 % 10) ≡ suc m = omega arith in
-    record { back = simp (p, q, r) (ap (λ k. negℤ (pos k)) e); aligned = simp (p, q, r) })
+    let z : eqb (suc m / 10 % 10) 0 ≡ false = ne-eqb _ _ (λ i. omega arith) in
+    record { back = simp (p, q, r) (ap (λ k. negℤ (pos k)) e); aligned = simp (p, q, r, z) })
     (⊎-elim
     (λ a.
     let p : leb 1000 (suc m) ≡ false = lt-leb _ _ (omega arith) in
     let q : leb 100 (suc m) ≡ true = le-leb _ _ (omega arith) in
     let r : leb 10 (suc m) ≡ true = le-leb _ _ (omega arith) in
     let e : number 0 (suc m / 100 % 10) (suc m / 10 % 10) (suc m / 1 % 10) ≡ suc m = omega arith in
-    record { back = simp (p, q, r) (ap (λ k. negℤ (pos k)) e); aligned = simp (p, q, r) })
+    let z : eqb (suc m / 100 % 10) 0 ≡ false = ne-eqb _ _ (λ i. omega arith) in
+    record { back = simp (p, q, r) (ap (λ k. negℤ (pos k)) e); aligned = simp (p, q, r, z) })
     (λ a. absurd (omega arith))))
     (sizes (suc m))
 

@@ -1,6 +1,6 @@
 -- A number in four characters: right-aligned, blanks in front, the minus directly before the first digit.
 use Prim.Native.Nat.{ℕ, suc, _+_, _-_, _*_, _/_, _%_, _^_}
-use mathlib.Core.Bool.{Bool, true, false, cond, _&&_, _||_}
+use mathlib.Core.Bool.{Bool, true, false, cond, not, _&&_, _||_}
 use mathlib.Core.List.{List, [], _∷_}
 use lib.Dec.{leb, eqb}
 use lib.IntN.{ℤ, pos, negsuc, negℤ}
@@ -58,21 +58,26 @@ negative (c ∷ cs) = isMinus c || negative cs
 abbrev pub read : List Character → ℤ
 read cs = cond (negative cs) (negℤ (pos (digits 0 cs))) (pos (digits 0 cs))
 
--- the row is blanks, then at most one minus, then one or more digits
+-- a digit with these characters after it may begin a number: 0 only as the last
+abbrev pub leading : ℕ → List Character → Bool
+leading d [] = true
+leading d (c ∷ cs) = not (eqb d 0)
+
 abbrev pub allDigits : List Character → Bool
 allDigits [] = true
 allDigits (Digit d ∷ cs) = allDigits cs
 allDigits (Minus ∷ cs) = false
 allDigits (Blank ∷ cs) = false
 
-abbrev pub startsDigit : List Character → Bool
-startsDigit [] = false
-startsDigit (Digit d ∷ cs) = true
-startsDigit (Minus ∷ cs) = false
-startsDigit (Blank ∷ cs) = false
+abbrev pub numeral : List Character → Bool
+numeral [] = false
+numeral (Digit d ∷ cs) = leading d cs && allDigits cs
+numeral (Minus ∷ cs) = false
+numeral (Blank ∷ cs) = false
 
+-- the characters are blanks, then a minus or none, then digits to the end, the first of them not 0 unless it is alone
 abbrev pub tidy : List Character → Bool
 tidy [] = false
-tidy (Digit d ∷ cs) = allDigits cs
-tidy (Minus ∷ cs) = startsDigit cs && allDigits cs
+tidy (Digit d ∷ cs) = numeral (Digit d ∷ cs)
+tidy (Minus ∷ cs) = numeral cs
 tidy (Blank ∷ cs) = tidy cs

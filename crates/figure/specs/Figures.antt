@@ -76,8 +76,10 @@ changed s v = cut (touched (s .shown .value) v (s .scale)) (15 * s .scale) (5 * 
 abbrev pub damage : ℤ → ℤ → ℕ → Rect
 damage old new z = hull (touched old new z) (15 * z) (5 * z)
 
--- an order that is taken shows a; scale, ink and paper are as before
-pub record Showed {P : Type 0} (s : Figure P) (o : Order) (d : Rect) (t : Figure P) : Type 0 where
+-- an order o to the figure s, its surface 0, that answers d, makes t of it: t shows a; scale, ink and paper are as
+-- before
+pub record Showed {P : Type 0} (s : Figure P) (k : ℕ) (o : Order) (d : Rect) (t : Figure P) : Type 0 where
+  pub surface : k ≡ 0
   pub number : t .shown .value ≡ o .a
   pub box : d ≡ damage (s .shown .value) (o .a) (s .scale)
   pub scale : t .scale ≡ s .scale

@@ -3,9 +3,9 @@ ghost use mathlib.Core.Bool.{Bool, true};
 ghost use Prim.Native.Nat.{ℕ};
 ghost use lib.IntN.{pos};
 ghost use Rattle.std.specs.Options.{isSome, Cases as BySome};
-ghost use Rattle.std.specs.Results.{isOk, Cases};
+ghost use Rattle.std.specs.Results.{Cases};
 ghost use Rattle.region_laws.specs.Boxes.{Smallest};
-ghost use Rattle.surface.specs.Damaged.{Damaged};
+ghost use Rattle.surface.specs.Answered.{Answered};
 ghost use Rattle.surface.specs.Settled.{Settled};
 ghost use Rattle.figure.specs.Figures.{accepts, figure as told-figure, fitting, told, changed, Showed};
 ghost use Rattle.figure.specs.Owed.{told-sound};
@@ -52,7 +52,7 @@ pub impl<P: Pixel> Shelf<P> for Figure<P> as FigureShelf {
 
     ghost sound = { told-sound };
 
-    ghost becomes = { λ s k o d t. Showed s o d t };
+    ghost becomes = { Showed };
 
     fn count(&self) -> u32 {
         1
@@ -99,11 +99,9 @@ pub impl<P: Pixel> Shelf<P> for Figure<P> as FigureShelf {
     }
 
     fn order(&mut self, k: u32, o: Order) -> Result<Rect, OrderRefused>
-        ensures taken { λ r. ⌜ isOk r ≡ told (P·Pixel .solid) (now (self .entry)) .takes k o ⌝ }
-        ensures made { λ r. ⌜ Cases r (λ d. Showed (now (self .entry)) o d (now (self .exit))) (λ _. now (self .exit) ≡ now (self .entry)) ⌝ }
-        ensures damaged { λ r. ⌜ Cases r (λ d. Damaged (told (P·Pixel .solid) (now (self .entry))) (told (P·Pixel .solid) (now (self .exit))) k d) (λ _. Unit {0}) ⌝ }
+        ensures answered { λ r. ⌜ Answered (told (P·Pixel .solid)) Showed (now (self .entry)) k o r (now (self .exit)) ⌝ }
         ensures smallest { λ r. ⌜ Cases r (λ d. Smallest (changed (now (self .entry)) (o .a)) d) (λ _. Unit {0}) ⌝ }
-        ensures settled { λ _. ⌜ Settled (told (P·Pixel .solid)) (λ s k o d t. Showed s o d t) ⌝ }
+        ensures settled { λ _. ⌜ Settled (told (P·Pixel .solid)) Showed ⌝ }
     {
         let z = self.scale;
         if k != 0 || z == 0 {

@@ -35,7 +35,7 @@ same-sheet hard c c' w w' h h' n n' p p' ec ew eh en ep =
     ∙ ap (λ v. sheet hard w' h' v (nthPage c' (w' * h') p)) en ∙ ap (λ v. sheet hard w' h' n' (nthPage c' (w' * h') v)) ep
 
 -- an order leaves a sheet no choice
-pub turn-settled : {P : Type 0} (hard : P → Bool) (equal : P → P → Bool) → Settled (told hard) (λ s k o b t. Turned equal s o b t)
+pub turn-settled : {P : Type 0} (hard : P → Bool) (equal : P → P → Bool) → Settled (told hard) (Turned equal)
 turn-settled hard equal s t u k o b c p q =
     let page : t .page ≡ u .page = cc in
     let cells : t .cells .now ≡ u .cells .now = ap (λ v. v .now) (p .cells ∙ sym (q .cells)) in

@@ -50,8 +50,10 @@ changed equal s p = cut (differs equal (s .width) (shown s) (pageOf s p)) (s .wi
 abbrev pub damage : {P : Type 0} → (P → P → Bool) → Sheet P → ℕ → Rect
 damage equal s p = hull (differs equal (s .width) (shown s) (pageOf s p)) (s .width) (s .height)
 
--- an order that is taken shows page a; its memory, sides and number of pages are as before
-pub record Turned {P : Type 0} (equal : P → P → Bool) (s : Sheet P) (o : Order) (d : Rect) (t : Sheet P) : Type 0 where
+-- an order o to the sheet s, its surface 0, that answers d, makes t of it: t shows page a; memory, sides and number of
+-- pages are as before
+pub record Turned {P : Type 0} (equal : P → P → Bool) (s : Sheet P) (k : ℕ) (o : Order) (d : Rect) (t : Sheet P) : Type 0 where
+  pub surface : k ≡ 0
   pub page : pos (t .page) ≡ o .a
   pub box : d ≡ damage equal s (t .page)
   pub cells : t .cells ≡ s .cells

@@ -4,9 +4,9 @@ ghost use Prim.Native.Nat.{ℕ, _*_, _<_, _≤_};
 ghost use lib.IntN.{pos};
 ghost use lib.ListN.{length};
 ghost use Rattle.std.specs.Options.{isSome, Cases as BySome};
-ghost use Rattle.std.specs.Results.{isOk, Cases};
+ghost use Rattle.std.specs.Results.{Cases};
 ghost use Rattle.region_laws.specs.Boxes.{Smallest};
-ghost use Rattle.surface.specs.Damaged.{Damaged};
+ghost use Rattle.surface.specs.Answered.{Answered};
 ghost use Rattle.surface.specs.Settled.{Settled};
 ghost use Rattle.sheet.specs.Sheets.{accepts, pageOf, told, opening, changed, Turned};
 ghost use Rattle.sheet.specs.Owed.{told-sound};
@@ -82,7 +82,7 @@ pub impl<'a, P: Pixel> Shelf<P> for Sheet<'a, P> as SheetShelf {
 
     ghost sound = { told-sound };
 
-    ghost becomes = { λ s k o d t. Turned (P·Pixel .equal) s o d t };
+    ghost becomes = { Turned (P·Pixel .equal) };
 
     fn count(&self) -> u32 {
         1
@@ -125,11 +125,9 @@ pub impl<'a, P: Pixel> Shelf<P> for Sheet<'a, P> as SheetShelf {
     }
 
     fn order(&mut self, k: u32, o: Order) -> Result<Rect, OrderRefused>
-        ensures taken { λ r. ⌜ isOk r ≡ told (P·Pixel .solid) (now (self .entry)) .takes k o ⌝ }
-        ensures made { λ r. ⌜ Cases r (λ d. Turned (P·Pixel .equal) (now (self .entry)) o d (now (self .exit))) (λ _. now (self .exit) ≡ now (self .entry)) ⌝ }
-        ensures damaged { λ r. ⌜ Cases r (λ d. Damaged (told (P·Pixel .solid) (now (self .entry))) (told (P·Pixel .solid) (now (self .exit))) k d) (λ _. Unit {0}) ⌝ }
+        ensures answered { λ r. ⌜ Answered (told (P·Pixel .solid)) (Turned (P·Pixel .equal)) (now (self .entry)) k o r (now (self .exit)) ⌝ }
         ensures smallest { λ r. ⌜ Cases r (λ d. Smallest (changed (P·Pixel .equal) (now (self .entry)) (now (self .exit) .page)) d) (λ _. Unit {0}) ⌝ }
-        ensures settled { λ _. ⌜ Settled (told (P·Pixel .solid)) (λ s k o d t. Turned (P·Pixel .equal) s o d t) ⌝ }
+        ensures settled { λ _. ⌜ Settled (told (P·Pixel .solid)) (Turned (P·Pixel .equal)) ⌝ }
     {
         let w = self.width;
         let h = self.height;

@@ -20,7 +20,8 @@ use Rattle.surface.specs.declared.pair.Part.the-variants.{First, Second, Neith
 use Rattle.surface.specs.Told.{Told, fits}
 use Rattle.surface.specs.Damaged.{Damaged}
 use Rattle.surface.specs.Beside.{part, from, beside, Alike, Parts}
-use Rattle.surface.specs.Paired.{paired, Becomes, Went, PairBecomes}
+use Rattle.surface.specs.Answered.{Becomes, Answered}
+use Rattle.surface.specs.Paired.{paired, Went, PairBecomes}
 use Rattle.surface.specs.Settled.{Settled, Same}
 use Rattle.surface.specs.PairOwed.{by-part}
 
@@ -108,12 +109,6 @@ damaged-first a a' b k j d at h =
           ∙ by-part n i (λ w. from w (λ m. a' .takes m o) (λ m. b .takes m o) false ≡ from w (λ m. a .takes m o) (λ m. b .takes m o) false)
           (λ p. h .takes i o (number i ∙ e)) (λ p q. refl) (λ p q. refl);
     }
-
--- what an order to a shelf promises of its answer r
-pub record Answered {P S : Type 0} (f : S → Told P) (m : Becomes S) (s : S) (k : ℕ) (o : Order) (r : Result Rect OrderRefused) (t : S) : Type 0 where
-  pub taken : isOk r ≡ f s .takes k o
-  pub made : Cases r (λ d. m s k o d t) (λ _. t ≡ s)
-  pub damaged : Cases r (λ d. Damaged (f s) (f t) k d) (λ _. Unit {0})
 
 module _ {P A B : Type 0} (f : A → Told P) (g : B → Told P) (m : Becomes A) (n : Becomes B) (s : Pair A B) (k j : ℕ) (o : Order) where
   -- the part's answer is the pair's

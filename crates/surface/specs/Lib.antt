@@ -1,6 +1,7 @@
 pub mod Told
 pub mod Sound
 pub mod Damaged
+pub mod Answered
 pub mod Settled
 pub mod Hull
 pub mod Single

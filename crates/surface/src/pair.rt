@@ -1,12 +1,7 @@
 ghost use mathlib.Core.Path.{_≡_};
-ghost use mathlib.Core.Bool.{Bool, true};
-ghost use Prim.Native.Nat.{ℕ};
-ghost use Rattle.std.specs.Results.{isOk, Cases};
-ghost use Rattle.surface.specs.Told.{has, passes};
-ghost use Rattle.surface.specs.Damaged.{Damaged};
+ghost use Rattle.surface.specs.Answered.{Answered};
 ghost use Rattle.surface.specs.Beside.{part as place, Parts};
-ghost use Rattle.surface.specs.Paired.{paired, PairBecomes};
-ghost use Rattle.surface.specs.Settled.{Settled};
+ghost use Rattle.surface.specs.Paired.{paired, PairBecomes, PairSettles};
 ghost use Rattle.surface.specs.PairOwed.{beside-sound};
 use crate::order::Order;
 use crate::order::OrderRefused;
@@ -29,15 +24,6 @@ enum Part {
     First(u32),
     Second(u32),
     Neither,
-}
-
-impl<A, B> Pair<A, B> {
-    pub fn new(first: A, second: B) -> Pair<A, B>
-        ensures first { λ r. ⌜ r .first ≡ first ⌝ }
-        ensures second { λ r. ⌜ r .second ≡ second ⌝ }
-    {
-        Pair { first, second }
-    }
 }
 
 // The part that has surface k, where the first part has n surfaces.
@@ -92,10 +78,8 @@ pub impl<P: Pixel, A: Shelf<P>, B: Shelf<P>> Shelf<P> for Pair<A, B> as PairShel
     }
 
     fn order(&mut self, k: u32, o: Order) -> Result<Rect, OrderRefused>
-        ensures taken { λ r. ⌜ isOk r ≡ paired (A·Shelf .tells (P·Pixel .solid)) (B·Shelf .tells (P·Pixel .solid)) (now (self .entry)) .takes k o ⌝ }
-        ensures made { λ r. ⌜ Cases r (λ d. PairBecomes (A·Shelf .tells (P·Pixel .solid)) (A·Shelf .becomes) (B·Shelf .becomes) (now (self .entry)) k o d (now (self .exit))) (λ _. now (self .exit) ≡ now (self .entry)) ⌝ }
-        ensures damaged { λ r. ⌜ Cases r (λ d. Damaged (paired (A·Shelf .tells (P·Pixel .solid)) (B·Shelf .tells (P·Pixel .solid)) (now (self .entry))) (paired (A·Shelf .tells (P·Pixel .solid)) (B·Shelf .tells (P·Pixel .solid)) (now (self .exit))) k d) (λ _. Unit {0}) ⌝ }
-        ensures settled { λ _. ⌜ (Settled (A·Shelf .tells (P·Pixel .solid)) (A·Shelf .becomes) → Settled (B·Shelf .tells (P·Pixel .solid)) (B·Shelf .becomes) → Settled (paired (A·Shelf .tells (P·Pixel .solid)) (B·Shelf .tells (P·Pixel .solid))) (PairBecomes (A·Shelf .tells (P·Pixel .solid)) (A·Shelf .becomes) (B·Shelf .becomes))) ⌝ }
+        ensures answered { λ r. ⌜ Answered (paired (A·Shelf .tells (P·Pixel .solid)) (B·Shelf .tells (P·Pixel .solid))) (PairBecomes (A·Shelf .tells (P·Pixel .solid)) (A·Shelf .becomes) (B·Shelf .becomes)) (now (self .entry)) k o r (now (self .exit)) ⌝ }
+        ensures settled { λ _. ⌜ PairSettles (A·Shelf .tells (P·Pixel .solid)) (B·Shelf .tells (P·Pixel .solid)) (A·Shelf .becomes) (B·Shelf .becomes) ⌝ }
     {
         match find_part(self.first.count(), k) {
             Part::First(j) => self.first.order(j, o),

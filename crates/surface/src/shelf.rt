@@ -1,12 +1,11 @@
 ghost use mathlib.Core.Path.{_≡_};
 ghost use mathlib.Core.Bool.{Bool, true};
 ghost use Prim.Native.Nat.{ℕ};
-ghost use Rattle.std.specs.Results.{isOk, Cases};
 ghost use Rattle.region_laws.specs.declared.rect.Rect.{Rect};
 ghost use Rattle.surface.specs.declared.order.Order.{Order};
 ghost use Rattle.surface.specs.Told.{Told, has, passes};
 ghost use Rattle.surface.specs.Sound.{Sound};
-ghost use Rattle.surface.specs.Damaged.{Damaged};
+ghost use Rattle.surface.specs.Answered.{Answered};
 use crate::order::Order;
 use crate::order::OrderRefused;
 use crate::size::Size;
@@ -44,7 +43,5 @@ pub trait Shelf<P: Pixel> {
 
     // Passes an order to surface k, and answers the box outside which its picture is as before.
     fn order(&mut self, k: u32, o: Order) -> Result<Rect, OrderRefused>
-        ensures taken { λ r. ⌜ isOk r ≡ tells (P·Pixel .solid) (now (self .entry)) .takes k o ⌝ }
-        ensures made { λ r. ⌜ Cases r (λ d. becomes (now (self .entry)) k o d (now (self .exit))) (λ _. now (self .exit) ≡ now (self .entry)) ⌝ }
-        ensures damaged { λ r. ⌜ Cases r (λ d. Damaged (tells (P·Pixel .solid) (now (self .entry))) (tells (P·Pixel .solid) (now (self .exit))) k d) (λ _. Unit {0}) ⌝ };
+        ensures { λ r. ⌜ Answered (tells (P·Pixel .solid)) becomes (now (self .entry)) k o r (now (self .exit)) ⌝ };
 }

@@ -26,9 +26,11 @@ returns-in-Some g c =
     let w1 : ltb 0 (15 * c .args .self .now .scale) ≡ true = lt-ltb _ _ (omega arith) in
     let h1 : ltb 0 (5 * c .args .self .now .scale) ≡ true = lt-ltb _ _ (omega arith) in
     record {
-      taken = simp (k1, w1, h1) (c .in-Some .ensures tt .taken);
-      made = record { number = n; box = a; scale = refl; ink = refl; paper = refl };
-      damaged = subst (λ v. Damaged (told hard s) (figure hard z next (s .ink) (s .paper)) k v) (sym e) (show-damaged hard z (s .shown .value) next (s .ink) (s .paper) k (omega arith) (omega arith));
+      answered = record {
+        taken = simp (k1, w1, h1) (c .in-Some .ensures tt .taken);
+        made = record { surface = omega arith; number = n; box = a; scale = refl; ink = refl; paper = refl };
+        damaged = subst (λ v. Damaged (told hard s) (figure hard z next (s .ink) (s .paper)) k v) (sym e) (show-damaged hard z (s .shown .value) next (s .ink) (s .paper) k (omega arith) (omega arith));
+      };
       smallest = subst (λ v. Smallest (changed s (o .a)) v) (sym a) (hulls (touched (s .shown .value) (o .a) z) (15 * z) (5 * z));
       settled = show-settled hard;
     }

@@ -27,10 +27,12 @@ returns-in-Some g c =
     ∙ ap (λ v. hull (differs equal (s .width) v (c .page-of-in-Some .result .now)) (s .width) (s .height)) (c .page-of .ensures .is)
     ∙ ap (λ v. hull (differs equal (s .width) (shown s) v) (s .width) (s .height)) (c .page-of-in-Some .ensures .is) in
     record {
-      taken = simp (k1, w1, h1) (c .in-Some .ensures tt .taken);
-      made = record { page = c .in-Some .ensures tt .shows .0; box = e; cells = refl; width = refl; height = refl; pages = refl };
-      damaged = subst (λ v. Damaged (told hard s) (sheet hard (s .width) (s .height) (s .pages) (pageOf s next)) k v) (sym e)
-          (turn-damaged equal (g .P·Pixel·met .alike) hard (s .width) (s .height) (s .pages) (shown s) (pageOf s next) k (omega arith));
+      answered = record {
+        taken = simp (k1, w1, h1) (c .in-Some .ensures tt .taken);
+        made = record { surface = omega arith; page = c .in-Some .ensures tt .shows .0; box = e; cells = refl; width = refl; height = refl; pages = refl };
+        damaged = subst (λ v. Damaged (told hard s) (sheet hard (s .width) (s .height) (s .pages) (pageOf s next)) k v) (sym e)
+            (turn-damaged equal (g .P·Pixel·met .alike) hard (s .width) (s .height) (s .pages) (shown s) (pageOf s next) k (omega arith));
+      };
       smallest = subst (λ v. Smallest (changed equal s next) v) (sym e) (hulls (differs equal (s .width) (shown s) (pageOf s next)) (s .width) (s .height));
       settled = turn-settled hard equal;
     }

@@ -10,8 +10,8 @@ returns-in-First g c =
     let h = g .B·Shelf .tells (g .P·Pixel .solid) in
     let at = ap (λ m. part m (c .args .k)) (sym (c .count .ensures)) ∙ sym (c .in-First .ensures tt) in
     let p = passed-first f h (g .A·Shelf .becomes) (g .B·Shelf .becomes) (c .args .self .now) (c .args .k) (c .in-First .j) (c .args .o) (c .order .last .self) (c .order .result) at
-    (record { taken = c .order .ensures .taken; made = c .order .ensures .made; damaged = c .order .ensures .damaged }) in
-    record { taken = p .taken; made = p .made; damaged = p .damaged; settled = pair-settled f h (g .A·Shelf .becomes) (g .B·Shelf .becomes) }
+    (c .order .ensures) in
+    record { answered = p; settled = pair-settled f h (g .A·Shelf .becomes) (g .B·Shelf .becomes) }
 
 pub returns-in-Second : need.returns-in-Second
 returns-in-Second g c =
@@ -20,8 +20,8 @@ returns-in-Second g c =
     let at = ap (λ m. part m (c .args .k)) (sym (c .count .ensures)) ∙ sym (c .in-Second .ensures tt) in
     let o = c .order-in-Second in
     let p = passed-second f h (g .A·Shelf .becomes) (g .B·Shelf .becomes) (c .args .self .now) (c .args .k) (c .in-Second .j) (c .args .o) (o .last .self) (o .result) at
-    (record { taken = o .ensures .taken; made = o .ensures .made; damaged = o .ensures .damaged }) in
-    record { taken = p .taken; made = p .made; damaged = p .damaged; settled = pair-settled f h (g .A·Shelf .becomes) (g .B·Shelf .becomes) }
+    (o .ensures) in
+    record { answered = p; settled = pair-settled f h (g .A·Shelf .becomes) (g .B·Shelf .becomes) }
 
 pub returns-in-Neither : need.returns-in-Neither
 returns-in-Neither g c =
@@ -29,8 +29,6 @@ returns-in-Neither g c =
     let h = g .B·Shelf .tells (g .P·Pixel .solid) in
     let at = ap (λ m. part m (c .args .k)) (sym (c .count .ensures)) ∙ sym (c .in-Neither .ensures tt) in
     record {
-      taken = passed-none f h (g .A·Shelf .becomes) (g .B·Shelf .becomes) (c .args .self .now) (c .args .k) 0 (c .args .o) at;
-      made = refl;
-      damaged = tt;
+      answered = record { taken = passed-none f h (g .A·Shelf .becomes) (g .B·Shelf .becomes) (c .args .self .now) (c .args .k) 0 (c .args .o) at; made = refl; damaged = tt };
       settled = pair-settled f h (g .A·Shelf .becomes) (g .B·Shelf .becomes);
     }
