@@ -12,6 +12,7 @@ struct Row {
 
 // The glyphs of the digits, of the minus and of the blank, each five rows from the top.
 const GLYPHS: [[Row; 5]; 12] = [
+    // 0
     [
         Row { bits: 7 },
         Row { bits: 5 },
@@ -19,6 +20,7 @@ const GLYPHS: [[Row; 5]; 12] = [
         Row { bits: 5 },
         Row { bits: 7 },
     ],
+    // 1
     [
         Row { bits: 2 },
         Row { bits: 6 },
@@ -26,6 +28,7 @@ const GLYPHS: [[Row; 5]; 12] = [
         Row { bits: 2 },
         Row { bits: 7 },
     ],
+    // 2
     [
         Row { bits: 7 },
         Row { bits: 1 },
@@ -33,6 +36,7 @@ const GLYPHS: [[Row; 5]; 12] = [
         Row { bits: 4 },
         Row { bits: 7 },
     ],
+    // 3
     [
         Row { bits: 7 },
         Row { bits: 1 },
@@ -40,6 +44,7 @@ const GLYPHS: [[Row; 5]; 12] = [
         Row { bits: 1 },
         Row { bits: 7 },
     ],
+    // 4
     [
         Row { bits: 5 },
         Row { bits: 5 },
@@ -47,6 +52,7 @@ const GLYPHS: [[Row; 5]; 12] = [
         Row { bits: 1 },
         Row { bits: 1 },
     ],
+    // 5
     [
         Row { bits: 7 },
         Row { bits: 4 },
@@ -54,6 +60,7 @@ const GLYPHS: [[Row; 5]; 12] = [
         Row { bits: 1 },
         Row { bits: 7 },
     ],
+    // 6
     [
         Row { bits: 7 },
         Row { bits: 4 },
@@ -61,6 +68,7 @@ const GLYPHS: [[Row; 5]; 12] = [
         Row { bits: 5 },
         Row { bits: 7 },
     ],
+    // 7
     [
         Row { bits: 7 },
         Row { bits: 1 },
@@ -68,20 +76,23 @@ const GLYPHS: [[Row; 5]; 12] = [
         Row { bits: 1 },
         Row { bits: 1 },
     ],
-    [
-        Row { bits: 7 },
-        Row { bits: 5 },
-        Row { bits: 7 },
-        Row { bits: 5 },
-        Row { bits: 7 },
-    ],
+    // 8
     [
         Row { bits: 7 },
         Row { bits: 5 },
         Row { bits: 7 },
+        Row { bits: 5 },
+        Row { bits: 7 },
+    ],
+    // 9
+    [
+        Row { bits: 7 },
+        Row { bits: 5 },
+        Row { bits: 7 },
         Row { bits: 1 },
         Row { bits: 7 },
     ],
+    // the minus
     [
         Row { bits: 0 },
         Row { bits: 0 },
@@ -89,6 +100,7 @@ const GLYPHS: [[Row; 5]; 12] = [
         Row { bits: 0 },
         Row { bits: 0 },
     ],
+    // the blank
     [
         Row { bits: 0 },
         Row { bits: 0 },

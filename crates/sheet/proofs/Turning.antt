@@ -1,17 +1,24 @@
 -- Turning a sheet to another page.
-use Prim.Native.Nat.{ℕ, _*_}
+use Prim.Native.Nat.{ℕ, _*_, _<_}
+use native.Mathlib.Omega.{arith}
 use mathlib.Core.Path.{_≡_, refl, sym, ap, _∙_}
 use mathlib.Core.List.{List}
+use mathlib.Core.Logic.{⊎-elim}
 use mathlib.Core.Bool.{Bool, true, false}
+use lib.Dec.{eqb}
 use Rattle.std.specs.declared.option.Option.{Option}
 use Rattle.std.specs.declared.option.Option.the-variants.{Some, None}
-use Rattle.std.proofs.shelf.Tests.{not-false, both-ways}
+use Rattle.std.proofs.shelf.Tests.{not-false, both-ways, cases-eq, eq-eqb, eqb-true}
 use Rattle.surface.specs.Damaged.{Damaged}
 use Rattle.surface.specs.Hull.{hull}
 use Rattle.surface.specs.Settled.{Settled}
 use Rattle.surface.proofs.Singles.{single-damaged}
 use Rattle.sheet.specs.Pages.{nthPage, pixelAt, each, alike, differs}
 use Rattle.sheet.specs.Sheets.{accepts, sheet, told, damage, Turned}
+
+-- a sheet that is wide is high
+pub open-both : (w h : ℕ) → eqb w 0 ≡ eqb h 0 → (w ≡ 0 → ⊥) → 0 < h
+open-both w h e ne = ⊎-elim (λ z. absurd (ne (eqb-true w 0 (e ∙ eq-eqb h 0 z)))) (λ z. omega arith) (cases-eq h 0)
 
 module _ {P : Type 0} (equal : P → P → Bool) (law : (a b : P) → equal a b ≡ true → a ≡ b) where
   -- pixels that are told the same are the same

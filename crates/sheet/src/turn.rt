@@ -131,7 +131,7 @@ pub impl<'a, P: Pixel> Shelf<P> for Sheet<'a, P> as SheetShelf {
     {
         let w = self.width;
         let h = self.height;
-        if k != 0 || w == 0 || h == 0 {
+        if k != 0 || w == 0 {
             return Err(OrderRefused);
         }
         match asked(o, self.pages) {

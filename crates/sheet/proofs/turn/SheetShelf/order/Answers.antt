@@ -10,7 +10,7 @@ use Rattle.surface.proofs.Hulls.{hulls}
 use Rattle.surface.specs.Hull.{hull}
 use Rattle.sheet.specs.Pages.{differs}
 use Rattle.sheet.specs.Sheets.{sheet, told, shown, pageOf, changed, damage}
-use Rattle.sheet.proofs.Turning.{turn-damaged, turn-settled}
+use Rattle.sheet.proofs.Turning.{open-both, turn-damaged, turn-settled}
 use Rattle.sheet.proofs.turn.SheetShelf.order.Needs as need
 
 pub returns-in-Some : need.returns-in-Some
@@ -22,7 +22,7 @@ returns-in-Some g c =
     let equal = g .P·Pixel .equal in
     let k1 : eqb (c .args .k) 0 ≡ true = eq-eqb _ _ (omega arith) in
     let w1 : ltb 0 (c .args .self .now .width) ≡ true = lt-ltb _ _ (omega arith) in
-    let h1 : ltb 0 (c .args .self .now .height) ≡ true = lt-ltb _ _ (omega arith) in
+    let h1 : ltb 0 (c .args .self .now .height) ≡ true = lt-ltb _ _ (open-both _ _ (s .both) (λ z. omega arith)) in
     let e : c .difference-damage .result ≡ damage equal s next = c .difference-damage .ensures
     ∙ ap (λ v. hull (differs equal (s .width) v (c .page-of-in-Some .result .now)) (s .width) (s .height)) (c .page-of .ensures .is)
     ∙ ap (λ v. hull (differs equal (s .width) (shown s) v) (s .width) (s .height)) (c .page-of-in-Some .ensures .is) in
