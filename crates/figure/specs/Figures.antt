@@ -42,6 +42,14 @@ told hard s = figure hard (s .scale) (s .shown .value) (s .ink) (s .paper)
 abbrev pub fitting : ℕ → ℕ
 fitting z = cond (leb z 8) z 0
 
+-- a new figure shows 0
+pub record Fresh {P : Type 0} (z : ℕ) (dark light : P) (s : Figure P) : Type 0 where
+  pub scale : s .scale ≡ fitting z
+  pub number : s .shown .value ≡ pos 0
+  pub ink : s .ink ≡ dark
+  pub paper : s .paper ≡ light
+
+-- one and the same character
 abbrev pub same : Character → Character → Bool
 same (Digit d) (Digit e) = eqb d e
 same (Digit d) Minus = false

@@ -7,7 +7,7 @@ ghost use Rattle.std.specs.Results.{Cases};
 ghost use Rattle.region_laws.specs.Boxes.{Smallest};
 ghost use Rattle.surface.specs.Answered.{Answered};
 ghost use Rattle.surface.specs.Settled.{Settled};
-ghost use Rattle.figure.specs.Figures.{accepts, figure as told-figure, fitting, told, changed, Showed};
+ghost use Rattle.figure.specs.Figures.{accepts, figure as told-figure, fitting, told, Fresh, changed, Showed};
 ghost use Rattle.figure.specs.Owed.{told-sound};
 use crate::cells::damage;
 use crate::cells::has_ink;
@@ -23,7 +23,8 @@ use surface::Size;
 impl<P: Pixel> Figure<P> {
     // A figure that shows 0. It is closed where the scale is not 1 to 8.
     pub fn new(scale: u32, ink: P, paper: P) -> Figure<P>
-        ensures { λ r. ⌜ told (P·Pixel .solid) r ≡ told-figure (P·Pixel .solid) (fitting scale) (pos 0) ink paper ⌝ }
+        ensures told { λ r. ⌜ told (P·Pixel .solid) r ≡ told-figure (P·Pixel .solid) (fitting scale) (pos 0) ink paper ⌝ }
+        ensures holds { λ r. ⌜ Fresh scale ink paper r ⌝ }
     {
         let scale = if scale <= 8 { scale } else { 0 };
         Figure {

@@ -42,6 +42,14 @@ fitting w h n long = (leb 1 w && leb w 1024) && ((leb 1 h && leb h 1024) && ((le
 abbrev pub opening : {P : Type 0} → (P → Bool) → List P → ℕ → ℕ → ℕ → Told P
 opening hard cells w h n = cond (fitting w h n (length cells)) (sheet hard w h n (nthPage cells (w * h) 0)) (sheet hard 0 0 1 [])
 
+-- a new sheet whose numbers fit reads the caller's memory, and shows page 0 of it
+pub record Fresh {P : Type 0} (memory : List P) (w h n : ℕ) (s : Sheet P) : Type 0 where
+  pub cells : s .cells .now ≡ memory
+  pub width : s .width ≡ w
+  pub height : s .height ≡ h
+  pub pages : s .pages ≡ n
+  pub page : s .page ≡ 0
+
 -- the places of a sheet where page p differs from the page that it shows
 abbrev pub changed : {P : Type 0} → (P → P → Bool) → Sheet P → ℕ → Places
 changed equal s p = cut (differs equal (s .width) (shown s) (pageOf s p)) (s .width) (s .height)

@@ -8,7 +8,7 @@ ghost use Rattle.std.specs.Results.{Cases};
 ghost use Rattle.region_laws.specs.Boxes.{Smallest};
 ghost use Rattle.surface.specs.Answered.{Answered};
 ghost use Rattle.surface.specs.Settled.{Settled};
-ghost use Rattle.sheet.specs.Sheets.{accepts, pageOf, told, opening, changed, Turned};
+ghost use Rattle.sheet.specs.Sheets.{accepts, pageOf, told, opening, fitting, Fresh, changed, Turned};
 ghost use Rattle.sheet.specs.Owed.{told-sound};
 use crate::scan::all_solid;
 use crate::scan::difference;
@@ -26,7 +26,8 @@ impl<'a, P: Pixel> Sheet<'a, P> {
     // A sheet that shows the first of n pages of w by h pixels. It is closed where a side is not 1 to 1,024, there are
     // not 1 to 64 pages, or the memory has not exactly their length.
     pub fn new(cells: &'a [P], w: u32, h: u32, n: u32) -> Sheet<'a, P>
-        ensures { λ r. ⌜ told (P·Pixel .solid) r ≡ opening (P·Pixel .solid) (now (cells .entry)) w h n ⌝ }
+        ensures told { λ r. ⌜ told (P·Pixel .solid) r ≡ opening (P·Pixel .solid) (now (cells .entry)) w h n ⌝ }
+        ensures holds { λ r. ⌜ (fitting w h n (length (now (cells .entry))) ≡ true → Fresh (now (cells .entry)) w h n r) ⌝ }
     {
         if w >= 1 && w <= 1024 && h >= 1 && h <= 1024 && n >= 1 && n <= 64 {
             let area = (w * h) as usize;
