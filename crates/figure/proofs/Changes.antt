@@ -1,25 +1,23 @@
 -- The cells of a figure, and the smallest box over those that changed.
 use Prim.Native.Nat.{ℕ, zero, suc, _<_, _≤_, _+_, _-_, _*_, _/_, _%_}
-use native.Mathlib.Nat.{mul-add, add-mul, mul-comm, mul-assoc}
+use native.Mathlib.Nat.{add-mul, mul-comm, mul-assoc}
 use native.Mathlib.Omega.{arith}
-use mathlib.Core.Path.{_≡_, refl, sym, ap, subst, _∙_}
-use mathlib.Core.Logic.{_⊎_, inl, inr, ⊎-elim}
-use mathlib.Core.Bool.{Bool, true, false, cond, not, _&&_, _||_}
-use lib.Dec.{ltb, leb, eqb}
+use mathlib.Core.Path.{_≡_, refl, sym, ap, _∙_}
+use mathlib.Core.Logic.{_⊎_, ⊎-elim}
+use mathlib.Core.Bool.{Bool, true, false, cond, _&&_, _||_}
+use lib.Dec.{ltb, leb}
 use lib.IntN.{ℤ}
 use Rattle.std.specs.declared.option.Option.the-variants.{Some}
 use Rattle.std.proofs.shelf.Bits.{mul-le, div-add-mod', mod-below, div-below}
-use Rattle.std.proofs.shelf.Tests.{cases-lt, cases-bool, both-ways, lt-ltb, le-ltb, ltb-true, leb-true, le-leb, and-parts, and-from, or-cases, or-left, or-right, not-true, not-from-false, eqb-true, eq-eqb}
-use Rattle.region_laws.specs.declared.rect.Rect.{Rect}
-use Rattle.region_laws.specs.Boxes.{box, noBox, inside, full, Smallest}
+use Rattle.std.proofs.shelf.Tests.{cases-lt, cases-bool, both-ways, lt-ltb, le-ltb, ltb-true, leb-true, le-leb, and-parts, and-from, or-cases, or-left, or-right, not-from-false, eqb-true}
+use Rattle.region_laws.specs.Boxes.{box, noBox, full, Smallest}
 use Rattle.surface.specs.Damaged.{Damaged}
-use Rattle.surface.specs.Hull.{hull, cut}
+use Rattle.surface.specs.Hull.{cut}
 use Rattle.surface.specs.Settled.{Settled}
-use Rattle.surface.proofs.Hulls.{In, in-from, from-in, hulls, one-smallest, none-smallest}
+use Rattle.surface.proofs.Hulls.{in-from, from-in, hulls, one-smallest, none-smallest}
 use Rattle.surface.proofs.Singles.{single-damaged}
 use Rattle.figure.specs.declared.character.Character.{Character}
 use Rattle.figure.specs.declared.character.Character.the-variants.{Digit, Minus, Blank}
-use Rattle.figure.specs.declared.figure.Figure.{Figure}
 use Rattle.figure.specs.Characters.{inCell}
 use Rattle.figure.specs.Glyphs.{ink}
 use Rattle.figure.specs.Figures.{accepts, inked, picture, figure, told, same, cell, unlike, hit, touched, damage, Showed}

@@ -6,7 +6,7 @@ use lib.Dec.{ltb, leb, eqb}
 use lib.IntN.{ℤ, pos}
 use lib.Signed.{leZ}
 use Rattle.std.specs.declared.option.Option.{Option}
-use Rattle.std.specs.declared.option.Option.the-variants.{Some, None}
+use Rattle.std.specs.declared.option.Option.the-variants.{Some}
 use Rattle.region_laws.specs.declared.rect.Rect.{Rect}
 use Rattle.region_laws.specs.Boxes.{Places}
 use Rattle.surface.specs.declared.order.Order.{Order}

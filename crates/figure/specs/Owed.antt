@@ -1,10 +1,10 @@
 -- The proof, which a figure carries in its meaning, that it keeps what every shelf owes. It says nothing more than the
 -- type of `told-sound`.
-use Prim.Native.Nat.{ℕ, _<_, _≤_, _*_, _/_}
+use Prim.Native.Nat.{ℕ, _*_, _/_}
 use native.Mathlib.Omega.{arith}
 use mathlib.Core.Path.{_≡_, refl, sym, _∙_}
 use mathlib.Core.Logic.{⊎-elim}
-use mathlib.Core.Bool.{Bool, true, false, cond, _&&_}
+use mathlib.Core.Bool.{Bool, true, _&&_}
 use lib.Dec.{eqb}
 use Rattle.std.proofs.shelf.Tests.{and-parts, cond-both, cases-eq, eq-eqb, ne-eqb}
 use Rattle.surface.specs.Sound.{Sound}

@@ -1,6 +1,4 @@
 ghost use mathlib.Core.Path.{_≡_};
-ghost use mathlib.Core.Bool.{Bool, true};
-ghost use Prim.Native.Nat.{ℕ};
 ghost use lib.IntN.{pos};
 ghost use Rattle.std.specs.Options.{isSome, Cases as BySome};
 ghost use Rattle.std.specs.Results.{Cases};

@@ -1,13 +1,10 @@
 -- Going through the pixels of a page.
-use Prim.Native.Nat.{ℕ, zero, suc, _<_, _+_, _*_}
-use native.Mathlib.Omega.{arith}
-use mathlib.Core.Path.{_≡_, refl, sym, ap, subst, _∙_}
+use Prim.Native.Nat.{ℕ, zero, suc, _+_}
+use mathlib.Core.Path.{_≡_, ap, _∙_}
 use mathlib.Core.List.{List, [], _∷_, _++_}
-use mathlib.Core.Bool.{Bool, true, false, not, _&&_}
-use lib.ListN.{length}
+use mathlib.Core.Bool.{Bool, true, false, not}
 use Rattle.std.specs.shelf.Maps.{nth}
-use Rattle.std.specs.declared.option.Option.{Option}
-use Rattle.std.specs.declared.option.Option.the-variants.{Some, None}
+use Rattle.std.specs.declared.option.Option.the-variants.{Some}
 use Rattle.std.proofs.shelf.Tests.{and-from, and-right, and-left, and-parts}
 use Rattle.sheet.specs.Pages.{each, alike, differs, pixelAt}
 

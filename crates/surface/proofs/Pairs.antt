@@ -2,11 +2,9 @@
 use Prim.Native.Nat.{ℕ, _<_, _≤_, _+_, _-_}
 use native.Mathlib.Omega.{arith}
 use mathlib.Core.Path.{_≡_, refl, sym, ap, subst, _∙_}
-use mathlib.Core.Bool.{Bool, true, false, cond, _&&_}
-use lib.Dec.{ltb, leb, eqb}
-use Rattle.std.specs.declared.option.Option.{Option}
-use Rattle.std.specs.declared.option.Option.the-variants.{Some, None}
-use Rattle.std.specs.Results.{isOk, Cases}
+use mathlib.Core.Bool.{false, _&&_}
+use lib.Dec.{eqb}
+use Rattle.std.specs.declared.option.Option.the-variants.{None}
 use Rattle.std.specs.declared.result.Result.{Result}
 use Rattle.std.specs.declared.result.Result.the-variants.{Ok, Err}
 use Rattle.std.proofs.shelf.Ways.{tells}
@@ -19,7 +17,7 @@ use Rattle.surface.specs.declared.pair.Part.{Part}
 use Rattle.surface.specs.declared.pair.Part.the-variants.{First, Second, Neither}
 use Rattle.surface.specs.Told.{Told, fits}
 use Rattle.surface.specs.Damaged.{Damaged}
-use Rattle.surface.specs.Beside.{part, from, beside, Alike, Parts}
+use Rattle.surface.specs.Beside.{part, from, beside, Parts}
 use Rattle.surface.specs.Answered.{Becomes, Answered}
 use Rattle.surface.specs.Paired.{paired, Went, PairBecomes}
 use Rattle.surface.specs.Settled.{Settled, Same}

@@ -4,12 +4,11 @@ use mathlib.Core.Path.{_≡_, refl, sym, ap, subst, _∙_}
 use mathlib.Core.Bool.{Bool, true, false, cond, _&&_}
 use lib.Dec.{ltb}
 use Rattle.std.specs.declared.option.Option.{Option}
-use Rattle.std.specs.declared.option.Option.the-variants.{Some, None}
 use Rattle.std.proofs.shelf.Tests.{and-parts, and-from, ltb-true, lt-ltb, cond-false}
 use Rattle.region_laws.specs.declared.rect.Rect.{Rect}
-use Rattle.region_laws.specs.Boxes.{Places, inside, Smallest}
+use Rattle.region_laws.specs.Boxes.{Places, inside}
 use Rattle.surface.specs.declared.order.Order.{Order}
-use Rattle.surface.specs.Told.{Told, on, fits, has, passes}
+use Rattle.surface.specs.Told.{Told, on, has, passes}
 use Rattle.surface.specs.Sound.{Sound}
 use Rattle.surface.specs.Damaged.{Damaged}
 use Rattle.surface.specs.Hull.{hull, cut}

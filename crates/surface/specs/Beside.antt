@@ -1,10 +1,9 @@
 -- Two shelves side by side.
-use Prim.Native.Nat.{ℕ, _<_, _≤_, _+_, _-_, min}
+use Prim.Native.Nat.{ℕ, _<_, _+_, _-_, min}
 use mathlib.Core.Path.{_≡_}
-use mathlib.Core.Bool.{Bool, true, false, cond}
+use mathlib.Core.Bool.{false, cond}
 use lib.Dec.{ltb}
-use Rattle.std.specs.declared.option.Option.{Option}
-use Rattle.std.specs.declared.option.Option.the-variants.{Some, None}
+use Rattle.std.specs.declared.option.Option.the-variants.{None}
 use Rattle.surface.specs.declared.order.Order.{Order}
 use Rattle.surface.specs.declared.pair.Part.{Part}
 use Rattle.surface.specs.declared.pair.Part.the-variants.{First, Second, Neither}

@@ -1,7 +1,7 @@
 -- What an order that is taken leaves as it was.
 use Prim.Native.Nat.{ℕ}
 use mathlib.Core.Path.{_≡_}
-use mathlib.Core.Bool.{Bool, true, false, _&&_}
+use mathlib.Core.Bool.{true, false, _&&_}
 use lib.Dec.{eqb}
 use Rattle.region_laws.specs.declared.rect.Rect.{Rect}
 use Rattle.region_laws.specs.Boxes.{inside}

@@ -1,6 +1,6 @@
 -- The smallest box over a set of places, to compute: place by place.
 use Prim.Native.Nat.{ℕ, zero, suc, _+_, min, max}
-use mathlib.Core.Bool.{Bool, cond, _&&_}
+use mathlib.Core.Bool.{cond, _&&_}
 use mathlib.Core.Path.{_≡_}
 use lib.Dec.{ltb}
 use Rattle.region_laws.specs.declared.rect.Rect.{Rect}

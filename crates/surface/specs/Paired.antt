@@ -1,8 +1,5 @@
 -- A pair of shelves, as one shelf.
-use Prim.Native.Nat.{ℕ}
 use mathlib.Core.Path.{_≡_}
-use Rattle.std.specs.declared.option.Option.{Option}
-use Rattle.std.specs.declared.option.Option.the-variants.{Some, None}
 use Rattle.region_laws.specs.declared.rect.Rect.{Rect}
 use Rattle.surface.specs.declared.order.Order.{Order}
 use Rattle.surface.specs.declared.pair.Pair.{Pair}

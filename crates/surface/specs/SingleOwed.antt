@@ -14,7 +14,7 @@ use Rattle.region_laws.specs.declared.rect.Rect.{Rect}
 use Rattle.region_laws.specs.Boxes.{box, noBox, inside}
 use Rattle.surface.specs.declared.order.Order.{Order}
 use Rattle.surface.specs.declared.size.Size.{Size}
-use Rattle.surface.specs.Told.{Told, on, opened, fair, fits, has, passes}
+use Rattle.surface.specs.Told.{on, fair, fits, has, passes}
 use Rattle.surface.specs.Sound.{Sound, boxed}
 use Rattle.surface.specs.Single.{sides, single}
 

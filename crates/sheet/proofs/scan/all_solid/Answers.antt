@@ -1,8 +1,5 @@
 use mathlib.Core.Path.{_≡_, refl, sym, subst, ap, _∙_}
 use mathlib.Core.Bool.{true}
-use Prim.Native.Nat.{_<_, _≤_}
-use lib.ListN.{length, take}
-use native.Mathlib.Omega.{arith}
 use Rattle.std.proofs.shelf.Maps.{nth-read}
 use Rattle.std.proofs.shelf.Lists.{take-more, take-all}
 use Rattle.std.proofs.shelf.Tests.{and-from}

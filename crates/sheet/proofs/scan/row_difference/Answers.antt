@@ -1,12 +1,11 @@
 use mathlib.Core.Path.{_≡_, refl, sym, subst, ap, _∙_}
-use mathlib.Core.Bool.{not, true, false}
-use Prim.Native.Nat.{ℕ, _+_, _*_, _<_}
+use mathlib.Core.Bool.{not}
+use Prim.Native.Nat.{_+_, _*_, _<_}
 use native.Mathlib.Omega.{arith}
 use lib.ListN.{length}
 use Rattle.std.proofs.shelf.Maps.{nth-read}
 use Rattle.std.specs.shelf.Maps.{nth}
 use Rattle.std.specs.declared.option.Option.the-variants.{Some}
-use Rattle.surface.specs.Hull.{across}
 use Rattle.surface.proofs.Hulls.{across-more, across-skip}
 use Rattle.sheet.specs.Pages.{differs}
 use Rattle.sheet.proofs.Scanned.{differs-at}

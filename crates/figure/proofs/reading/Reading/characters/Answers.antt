@@ -1,8 +1,6 @@
-use borrow.Author.Needs.{needs}
-use mathlib.Core.Path.{_≡_, sym, ap, _∙_}
-use mathlib.Core.List.{List, [], _∷_}
-use mathlib.Core.Bool.{true}
-use Rattle.figure.specs.Characters.{inRange, row, read, tidy}
+use mathlib.Core.Path.{_≡_, ap, _∙_}
+use mathlib.Core.List.{[], _∷_}
+use Rattle.figure.specs.Characters.{row, read, tidy}
 use Rattle.figure.proofs.Digits.{good, in-range, rows-apart}
 use Rattle.figure.proofs.reading.Reading.characters.Needs as need
 

@@ -1,5 +1,4 @@
-use borrow.Author.Needs.{needs}
-use mathlib.Core.Path.{_≡_, refl, sym, ap, _∙_}
+use mathlib.Core.Path.{refl, sym, ap, _∙_}
 use Rattle.surface.specs.Beside.{part}
 use Rattle.surface.proofs.Pairs.{passed-first, passed-second, passed-none, pair-settled}
 use Rattle.surface.proofs.pair.PairShelf.order.Needs as need
