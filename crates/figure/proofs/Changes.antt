@@ -8,7 +8,7 @@ use mathlib.Core.Bool.{Bool, true, false, cond, _&&_, _||_}
 use lib.Dec.{ltb, leb}
 use lib.IntN.{ℤ}
 use Rattle.std.specs.declared.option.Option.the-variants.{Some}
-use Rattle.std.proofs.shelf.Bits.{mul-le, div-add-mod', mod-below, div-below}
+use Rattle.std.proofs.shelf.Bits.{mul-le, div-add-mod', mod-below, div-below, div-mul-add, mod-mul-add}
 use Rattle.std.proofs.shelf.Tests.{cases-lt, cases-bool, both-ways, lt-ltb, le-ltb, ltb-true, leb-true, le-leb, and-parts, and-from, or-cases, or-left, or-right, not-from-false, eqb-true}
 use Rattle.region_laws.specs.Boxes.{box, noBox, full, Smallest}
 use Rattle.surface.specs.Damaged.{Damaged}
@@ -20,7 +20,7 @@ use Rattle.figure.specs.declared.character.Character.{Character}
 use Rattle.figure.specs.declared.character.Character.the-variants.{Digit, Minus, Blank}
 use Rattle.figure.specs.Characters.{inCell}
 use Rattle.figure.specs.Glyphs.{ink}
-use Rattle.figure.specs.Figures.{accepts, inked, picture, figure, told, same, cell, unlike, hit, touched, damage, Showed}
+use Rattle.figure.specs.Figures.{accepts, inked, picture, Drawn, figure, told, same, cell, unlike, hit, touched, damage, Showed}
 
 pub same-true : (a b : Character) → same a b ≡ true → a ≡ b
 same-true (Digit d) (Digit e) h = ap Digit (eqb-true d e h)
@@ -138,6 +138,16 @@ in-cell z x pos part =
     let e4 : x / z % 4 * z ≤ 2 * z = mul-le (x / z % 4) z 2 z (omega arith) (omega arith) in
     let e5 : x / z * z ≡ 4 * z * (x / z / 4) + x / z % 4 * z = ap (λ n. n * z) (sym e3) ∙ regroup (x / z / 4) (x / z % 4) z in
     (omega arith, omega arith)
+
+-- every bit is where the cells have it
+pub drawn : {P : Type 0} (z : ℕ) (v : ℤ) (dark light : P) → Drawn z v dark light
+drawn z v dark light i c r dx dy h hx hy =
+    let x : (4 * z * i + c * z + dx) / z ≡ i * 4 + c = ap (λ n. (n + dx) / z) (sym (regroup i c z)) ∙ div-mul-add (i * 4 + c) z dx hx in
+    let y : (r * z + dy) / z ≡ r = div-mul-add r z dy hy in
+    let q : (i * 4 + c) / 4 ≡ i = div-mul-add i 4 c h in
+    let m : (i * 4 + c) % 4 ≡ c = mod-mul-add i 4 c h in
+    ap (λ n. Some (cond (inked v n ((r * z + dy) / z)) dark light)) x ∙ ap (λ n. Some (cond (inked v (i * 4 + c) n) dark light)) y
+    ∙ ap (λ n. Some (cond (ltb n 3 && ink (inCell v ((i * 4 + c) / 4)) n r) dark light)) m ∙ ap (λ n. Some (cond (ltb c 3 && ink (inCell v n) c r) dark light)) q
 
 -- a place in no cell that changed has the ink that it had
 pub kept-ink : (old new : ℤ) (z x y : ℕ) → 0 < z → x < 15 * z → touched old new z x y ≡ false → inked new (x / z) (y / z) ≡ inked old (x / z) (y / z)

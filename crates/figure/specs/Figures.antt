@@ -1,5 +1,5 @@
 -- Figures: what they tell, and what an order makes of them.
-use Prim.Native.Nat.{ℕ, _+_, _*_, _/_, _%_}
+use Prim.Native.Nat.{ℕ, _<_, _+_, _*_, _/_, _%_}
 use mathlib.Core.Path.{_≡_}
 use mathlib.Core.Bool.{Bool, true, false, cond, not, _&&_, _||_}
 use lib.Dec.{ltb, leb, eqb}
@@ -30,6 +30,12 @@ inked v column row = ltb (column % 4) 3 && ink (inCell v (column / 4)) (column %
 -- each bit is z by z pixels
 abbrev pub picture : {P : Type 0} → ℕ → ℤ → P → P → ℕ → ℕ → Option P
 picture z v ink paper x y = Some (cond (inked v (x / z) (y / z)) ink paper)
+
+-- so bit (c, r) of the character in cell i is drawn z by z pixels large, with its upper left corner at
+-- (4zi + cz, rz); the column after a cell, c = 3, is paper
+abbrev pub Drawn : {P : Type 0} → ℕ → ℤ → P → P → Type 0
+Drawn z v dark light = (i c r dx dy : ℕ) → c < 4 → dx < z → dy < z
+    → picture z v dark light (4 * z * i + c * z + dx) (r * z + dy) ≡ Some (cond (ltb c 3 && ink (inCell v i) c r) dark light)
 
 -- what a figure of scale z tells, while it shows v
 abbrev pub figure : {P : Type 0} → (P → Bool) → ℕ → ℤ → P → P → Told P

@@ -5,7 +5,7 @@ ghost use Rattle.std.specs.Results.{Cases};
 ghost use Rattle.region_laws.specs.Boxes.{Smallest};
 ghost use Rattle.surface.specs.Answered.{Answered};
 ghost use Rattle.surface.specs.Settled.{Settled};
-ghost use Rattle.figure.specs.Figures.{accepts, figure as told-figure, fitting, told, Fresh, changed, Showed};
+ghost use Rattle.figure.specs.Figures.{accepts, figure as told-figure, fitting, told, Fresh, Drawn, changed, Showed};
 ghost use Rattle.figure.specs.Owed.{told-sound};
 use crate::cells::damage;
 use crate::cells::has_ink;
@@ -68,7 +68,10 @@ pub impl<P: Pixel> Shelf<P> for Figure<P> as FigureShelf {
         }
     }
 
-    fn pixel(&self, k: u32, x: u32, y: u32) -> Option<P> {
+    fn pixel(&self, k: u32, x: u32, y: u32) -> Option<P>
+        ensures told { λ r. ⌜ r ≡ told (P·Pixel .solid) (now (self .entry)) .pixel k x y ⌝ }
+        ensures drawn { λ _. ⌜ Drawn (now (self .entry) .scale) (now (self .entry) .shown .value) (now (self .entry) .ink) (now (self .entry) .paper) ⌝ }
+    {
         let z = self.scale;
         if k == 0 && x < 15 * z && y < 5 * z {
             Some(if has_ink(self.shown, x / z, y / z) {
