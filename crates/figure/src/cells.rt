@@ -9,7 +9,7 @@ use crate::reading::Reading;
 use region_laws::Rect;
 
 // Whether the number has ink in this column of this row, at scale 1.
-pub fn has_ink(v: Reading, column: u32, row: u32) -> bool
+pub(crate) fn has_ink(v: Reading, column: u32, row: u32) -> bool
     requires { ⌜ column < 15 ⌝ ∗ ⌜ row < 5 ⌝ }
     ensures { λ r. ⌜ r ≡ inked (v .value) column row ⌝ }
 {
@@ -60,7 +60,7 @@ fn last_changed(old: Reading, new: Reading) -> u32
 }
 
 // The smallest box over the cells whose character changed.
-pub fn damage(old: Reading, new: Reading, z: u32) -> Rect
+pub(crate) fn damage(old: Reading, new: Reading, z: u32) -> Rect
     requires { ⌜ 0 < z ⌝ ∗ ⌜ z ≤ 8 ⌝ }
     ensures { λ r. ⌜ r ≡ smallest (old .value) (new .value) z ⌝ }
 {

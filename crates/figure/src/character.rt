@@ -15,7 +15,7 @@ pub enum Character {
 }
 
 // The character in cell i, counted from 0 at the left.
-pub fn character_in(v: Reading, i: u32) -> Character
+pub(crate) fn character_in(v: Reading, i: u32) -> Character
     requires { ⌜ i < 4 ⌝ }
     ensures shows { λ r. ⌜ r ≡ inCell (v .value) i ⌝ }
     ensures known { λ r. ⌜ glyph r < 12 ⌝ }

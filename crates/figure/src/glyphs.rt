@@ -111,7 +111,7 @@ const GLYPHS: [[Row; 5]; 12] = [
 ];
 
 // The bits of one row of a character's glyph.
-pub fn row_bits(c: Character, row: usize) -> u8
+pub(crate) fn row_bits(c: Character, row: usize) -> u8
     requires { ⌜ glyph c < 12 ⌝ ∗ ⌜ row < 5 ⌝ }
     ensures { λ r. ⌜ r ≡ bits c row ⌝ }
 {

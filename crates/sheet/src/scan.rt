@@ -7,7 +7,7 @@ use pixel::Pixel;
 use region_laws::Rect;
 
 // Whether each pixel is solid.
-pub fn all_solid<P: Pixel>(page: &[P]) -> bool
+pub(crate) fn all_solid<P: Pixel>(page: &[P]) -> bool
     ensures { λ r. ⌜ r ≡ each (P·Pixel .solid) (now (page .entry)) ⌝ }
 {
     for p in page {
@@ -19,7 +19,7 @@ pub fn all_solid<P: Pixel>(page: &[P]) -> bool
 }
 
 // The index of the pixel (x, y) in a page of w by h.
-pub fn place(w: u32, h: u32, x: u32, y: u32) -> usize
+pub(crate) fn place(w: u32, h: u32, x: u32, y: u32) -> usize
     requires { ⌜ w ≤ 1024 ⌝ ∗ ⌜ h ≤ 1024 ⌝ ∗ ⌜ x < w ⌝ ∗ ⌜ y < h ⌝ }
     ensures at { λ r. ⌜ r ≡ y * w + x ⌝ }
     ensures below { λ r. ⌜ r < w * h ⌝ }
@@ -28,7 +28,7 @@ pub fn place(w: u32, h: u32, x: u32, y: u32) -> usize
 }
 
 // Page p, of n pages of this many pixels.
-pub fn page_at<P: Copy>(cells: &[P], area: usize, n: usize, p: usize) -> &[P]
+pub(crate) fn page_at<P: Copy>(cells: &[P], area: usize, n: usize, p: usize) -> &[P]
     requires { ⌜ p < n ⌝ ∗ ⌜ length (now cells) ≡ n * area ⌝ ∗ ⌜ area ≤ 1048576 ⌝ ∗ ⌜ n ≤ 64 ⌝ }
     ensures is { λ r. ⌜ now r ≡ nthPage (now (cells .entry)) area p ⌝ }
     ensures long { λ r. ⌜ length (now r) ≡ area ⌝ }
@@ -75,7 +75,7 @@ fn row_difference<P: Pixel>(old: &[P], new: &[P], w: u32, h: u32, y: u32, found:
 }
 
 // The smallest box over the places where two pages differ.
-pub fn difference<P: Pixel>(old: &[P], new: &[P], w: u32, h: u32) -> Rect
+pub(crate) fn difference<P: Pixel>(old: &[P], new: &[P], w: u32, h: u32) -> Rect
     requires { ⌜ w ≤ 1024 ⌝ ∗ ⌜ h ≤ 1024 ⌝ ∗ ⌜ length (now old) ≡ w * h ⌝ ∗ ⌜ length (now new) ≡ w * h ⌝ }
     ensures { λ r. ⌜ r ≡ hull (differs (P·Pixel .equal) w (now (old .entry)) (now (new .entry))) w h ⌝ }
 {

@@ -8,7 +8,7 @@ ghost use Rattle.std.specs.Results.{Cases};
 ghost use Rattle.region_laws.specs.Boxes.{Smallest};
 ghost use Rattle.surface.specs.Answered.{Answered};
 ghost use Rattle.surface.specs.Settled.{Settled};
-ghost use Rattle.sheet.specs.Sheets.{accepts, pageOf, told, opening, fitting, Fresh, changed, Turned};
+ghost use Rattle.sheet.specs.Sheets.{accepts, damage, pageOf, shown, told, opening, fitting, Fresh, changed, Turned};
 ghost use Rattle.sheet.specs.Owed.{told-sound};
 use crate::scan::all_solid;
 use crate::scan::difference;
@@ -63,6 +63,22 @@ impl<'a, P: Pixel> Sheet<'a, P> {
             p as usize,
         )
     }
+
+    // The pixels of the page that the sheet shows.
+    fn shown_page(&self) -> &[P]
+        ensures is { λ r. ⌜ now r ≡ shown (now (self .entry)) ⌝ }
+        ensures long { λ r. ⌜ length (now r) ≡ now (self .entry) .width * now (self .entry) .height ⌝ }
+    {
+        self.page_of(self.page)
+    }
+
+    // The smallest box over the places where page p differs from the page that the sheet shows.
+    fn damage_to(&self, p: u32) -> Rect
+        requires { ⌜ p < now self .pages ⌝ }
+        ensures { λ r. ⌜ r ≡ damage (P·Pixel .equal) (now (self .entry)) p ⌝ }
+    {
+        difference(self.shown_page(), self.page_of(p), self.width, self.height)
+    }
 }
 
 // The page that an order asks for, of n pages.
@@ -103,7 +119,7 @@ pub impl<'a, P: Pixel> Shelf<P> for Sheet<'a, P> as SheetShelf {
     fn pixel(&self, k: u32, x: u32, y: u32) -> Option<P> {
         if k == 0 && x < self.width && y < self.height {
             let at = place(self.width, self.height, x, y);
-            Some(self.page_of(self.page)[at])
+            Some(self.shown_page()[at])
         } else {
             None
         }
@@ -113,7 +129,7 @@ pub impl<'a, P: Pixel> Shelf<P> for Sheet<'a, P> as SheetShelf {
         if k != 0 {
             return None;
         }
-        if all_solid(self.page_of(self.page)) {
+        if all_solid(self.shown_page()) {
             Some(Rect {
                 left: 0,
                 top: 0,
@@ -130,14 +146,12 @@ pub impl<'a, P: Pixel> Shelf<P> for Sheet<'a, P> as SheetShelf {
         ensures smallest { λ r. ⌜ Cases r (λ d. Smallest (changed (P·Pixel .equal) (now (self .entry)) (now (self .exit) .page)) d) (λ _. Unit {0}) ⌝ }
         ensures settled { λ _. ⌜ Settled (told (P·Pixel .solid)) (Turned (P·Pixel .equal)) ⌝ }
     {
-        let w = self.width;
-        let h = self.height;
-        if k != 0 || w == 0 {
+        if k != 0 || self.width == 0 {
             return Err(OrderRefused);
         }
         match asked(o, self.pages) {
             Some(next) => {
-                let damage = difference(self.page_of(self.page), self.page_of(next), w, h);
+                let damage = self.damage_to(next);
                 self.page = next;
                 Ok(damage)
             }

@@ -59,13 +59,6 @@ parts-beside a b = record {
   };
 }
 
--- where the first part has the surface
-pub in-first : (n k j : ℕ) → part n k ≡ First j → (k < n) × (j ≡ k)
-in-first n k j = by-part n k (λ w. w ≡ First j → (k < n) × (j ≡ k))
-    (λ h e. (h, cc))
-    (λ h i e. let z : _≡_ {A = ℕ} 0 1 = cc in absurd (omega arith))
-    (λ h i e. let z : _≡_ {A = ℕ} 0 1 = cc in absurd (omega arith))
-
 same-number : (i j k n : ℕ) → n ≤ i → n ≤ k → j ≡ k - n → eqb (i - n) j ≡ eqb i k
 same-number i j k n a b e = grind (arith, tells)
 
@@ -86,43 +79,8 @@ damaged-second a b b' k j d at h =
           (λ p. refl) (λ p q. h .takes (i - n) o (number i p ∙ e)) (λ p q. refl);
     }
 
--- so is the damage of the first part
-pub damaged-first : {P : Type 0} (a a' b : Told P) (k j : ℕ) (d : Rect) → part (a .count) k ≡ First j → Damaged a a' j d → Damaged (beside a b) (beside a' b) k d
-damaged-first a a' b k j d at h =
-    let n = a .count in
-    let in' = in-first n k j at in
-    let number : (i : ℕ) → eqb i j ≡ eqb i k = λ i. ap (λ m. eqb i m) (in' .1) in
-    let same : (i : ℕ) → part (a' .count) i ≡ part n i = λ i. ap (λ m. part m i) (h .count) in
-    record {
-      boxed = ap (λ w. fits (from w (a .size) (b .size) None) d) at ∙ h .boxed;
-      count = simp (h .count);
-      size = λ i. ap (λ w. from w (a' .size) (b .size) None) (same i)
-          ∙ by-part n i (λ w. from w (a' .size) (b .size) None ≡ from w (a .size) (b .size) None) (λ p. h .size i) (λ p q. refl) (λ p q. refl);
-      pixel = λ i x y e. ap (λ w. from w (λ m. a' .pixel m x y) (λ m. b .pixel m x y) None) (same i)
-          ∙ by-part n i (λ w. from w (λ m. a' .pixel m x y) (λ m. b .pixel m x y) None ≡ from w (λ m. a .pixel m x y) (λ m. b .pixel m x y) None)
-          (λ p. h .pixel i x y (ap (λ v. v && inside d x y) (number i) ∙ e)) (λ p q. refl) (λ p q. refl);
-      solid = λ i e. ap (λ w. from w (a' .solid) (b .solid) None) (same i)
-          ∙ by-part n i (λ w. from w (a' .solid) (b .solid) None ≡ from w (a .solid) (b .solid) None) (λ p. h .solid i (number i ∙ e)) (λ p q. refl) (λ p q. refl);
-      takes = λ i o e. ap (λ w. from w (λ m. a' .takes m o) (λ m. b .takes m o) false) (same i)
-          ∙ by-part n i (λ w. from w (λ m. a' .takes m o) (λ m. b .takes m o) false ≡ from w (λ m. a .takes m o) (λ m. b .takes m o) false)
-          (λ p. h .takes i o (number i ∙ e)) (λ p q. refl) (λ p q. refl);
-    }
-
 module _ {P A B : Type 0} (f : A → Told P) (g : B → Told P) (m : Becomes A) (n : Becomes B) (s : Pair A B) (k j : ℕ) (o : Order) where
-  -- the part's answer is the pair's
-  pub passed-first : (a : A) (r : Result Rect OrderRefused) → part (f (s .first) .count) k ≡ First j → Answered f m (s .first) j o r a
-      → Answered (paired f g) (PairBecomes f m n) s k o r (record { first = a; second = s .second })
-  passed-first a (Ok d) at h = record {
-    taken = h .taken ∙ sym (ap (λ w. from w (λ i. f (s .first) .takes i o) (λ i. g (s .second) .takes i o) false) at);
-    made = subst (λ w. Went w m n s o d (record { first = a; second = s .second })) (sym at) (h .made, refl);
-    damaged = damaged-first (f (s .first)) (f a) (g (s .second)) k j d at (h .damaged);
-  }
-  passed-first a (Err e) at h = record {
-    taken = h .taken ∙ sym (ap (λ w. from w (λ i. f (s .first) .takes i o) (λ i. g (s .second) .takes i o) false) at);
-    made = ap (λ v. record { first = v; second = s .second }) (h .made);
-    damaged = tt;
-  }
-
+  -- the answer of the second part is the pair's
   pub passed-second : (b : B) (r : Result Rect OrderRefused) → part (f (s .first) .count) k ≡ Second j → Answered g n (s .second) j o r b
       → Answered (paired f g) (PairBecomes f m n) s k o r (record { first = s .first; second = b })
   passed-second b (Ok d) at h = record {
@@ -135,10 +93,6 @@ module _ {P A B : Type 0} (f : A → Told P) (g : B → Told P) (m : Becomes A) 
     made = ap (λ v. record { first = s .first; second = v }) (h .made);
     damaged = tt;
   }
-
-  -- neither part has the surface
-  pub passed-none : part (f (s .first) .count) k ≡ Neither → false ≡ paired f g s .takes k o
-  passed-none at = sym (ap (λ w. from w (λ i. f (s .first) .takes i o) (λ i. g (s .second) .takes i o) false) at)
 
 -- a pair leaves no choice where its parts leave none
 module _ {P A B : Type 0} (f : A → Told P) (g : B → Told P) (m : Becomes A) (n : Becomes B) (sa : Settled f m) (sb : Settled g n) where

