@@ -1,5 +1,6 @@
 -- A number in four characters: right-aligned, blanks in front, the minus directly before the first digit.
 use Prim.Native.Nat.{ℕ, suc, _+_, _-_, _*_, _/_, _%_, _^_}
+use mathlib.Core.Path.{_≡_}
 use mathlib.Core.Bool.{Bool, true, false, cond, not, _&&_, _||_}
 use mathlib.Core.List.{List, [], _∷_}
 use lib.Dec.{leb, eqb}
@@ -81,3 +82,10 @@ tidy [] = false
 tidy (Digit d ∷ cs) = numeral (Digit d ∷ cs)
 tidy (Minus ∷ cs) = numeral cs
 tidy (Blank ∷ cs) = tidy cs
+
+-- the characters are those of v, and read back they give v; no other number in range has them; they are tidy
+pub record Shows (v : ℤ) (cs : List Character) : Type 0 where
+  pub named : cs ≡ row v
+  pub back : read cs ≡ v
+  pub apart : (u : ℤ) → inRange u ≡ true → row u ≡ cs → u ≡ v
+  pub aligned : tidy cs ≡ true

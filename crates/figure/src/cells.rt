@@ -1,6 +1,7 @@
 ghost use mathlib.Core.Path.{_≡_};
 ghost use mathlib.Core.Bool.{true, false};
-ghost use Prim.Native.Nat.{ℕ, _<_, _≤_};
+ghost use Prim.Native.Nat.{ℕ, _+_, _*_, _<_, _≤_};
+ghost use Rattle.region_laws.specs.Boxes.{box};
 ghost use Rattle.figure.specs.Figures.{inked, unlike, damage as smallest};
 use crate::character::CharacterPartialEq;
 use crate::character::character_in;
@@ -59,6 +60,19 @@ fn last_changed(old: Reading, new: Reading) -> u32
     4
 }
 
+// The box from one cell to another, both inside.
+fn span(first: u32, last: u32, z: u32) -> Rect
+    requires { ⌜ first ≤ 4 ⌝ ∗ ⌜ last ≤ 4 ⌝ ∗ ⌜ z ≤ 8 ⌝ }
+    ensures { λ r. ⌜ r ≡ box (4 * z * first) 0 (4 * z * last + 3 * z) (5 * z) ⌝ }
+{
+    Rect {
+        left: 4 * z * first,
+        top: 0,
+        right: 4 * z * last + 3 * z,
+        bottom: 5 * z,
+    }
+}
+
 // The smallest box over the cells whose character changed.
 pub(crate) fn damage(old: Reading, new: Reading, z: u32) -> Rect
     requires { ⌜ 0 < z ⌝ ∗ ⌜ z ≤ 8 ⌝ }
@@ -68,11 +82,5 @@ pub(crate) fn damage(old: Reading, new: Reading, z: u32) -> Rect
     if first == 4 {
         return Rect::NONE;
     }
-    let last = last_changed(old, new);
-    Rect {
-        left: 4 * z * first,
-        top: 0,
-        right: 4 * z * last + 3 * z,
-        bottom: 5 * z,
-    }
+    span(first, last_changed(old, new), z)
 }

@@ -1,9 +1,7 @@
 ghost use mathlib.Core.Path.{_≡_};
-ghost use mathlib.Core.Bool.{true};
 ghost use Prim.Native.Nat.{_<_};
-ghost use lib.IntN.{ℤ};
 ghost use Rattle.std.specs.Options.{isSome, Cases};
-ghost use Rattle.figure.specs.Characters.{inCell, inRange, row, glyph, read, tidy};
+ghost use Rattle.figure.specs.Characters.{inCell, inRange, glyph, Shows};
 use crate::reading::Reading;
 
 // What one cell of a figure shows.
@@ -51,16 +49,20 @@ impl Reading {
 
     // The four characters that show the number, from the left.
     pub fn characters(self) -> [Character; 4]
-        ensures named { λ r. ⌜ r ≡ row (self .value) ⌝ }
-        ensures back { λ r. ⌜ read r ≡ self .value ⌝ }
-        ensures apart { λ r. ⌜ ((v : ℤ) → inRange v ≡ true → row v ≡ r → v ≡ self .value) ⌝ }
-        ensures aligned { λ r. ⌜ tidy r ≡ true ⌝ }
+        ensures { λ r. ⌜ Shows (self .value) r ⌝ }
     {
-        [
-            character_in(self, 0),
-            character_in(self, 1),
-            character_in(self, 2),
-            character_in(self, 3),
-        ]
+        row_of(self)
     }
+}
+
+// The characters of the four cells.
+fn row_of(v: Reading) -> [Character; 4]
+    ensures { λ r. ⌜ Shows (v .value) r ⌝ }
+{
+    [
+        character_in(v, 0),
+        character_in(v, 1),
+        character_in(v, 2),
+        character_in(v, 3),
+    ]
 }

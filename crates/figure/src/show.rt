@@ -53,7 +53,10 @@ pub impl<P: Pixel> Shelf<P> for Figure<P> as FigureShelf {
 
     ghost becomes = { Showed };
 
-    fn count(&self) -> u32 {
+    fn count(&self) -> u32
+        ensures told { λ r. ⌜ r ≡ told (P·Pixel .solid) (now (self .entry)) .count ⌝ }
+        ensures drawn { λ _. ⌜ Drawn (now (self .entry) .scale) (now (self .entry) .shown .value) (now (self .entry) .ink) (now (self .entry) .paper) ⌝ }
+    {
         1
     }
 
@@ -68,10 +71,7 @@ pub impl<P: Pixel> Shelf<P> for Figure<P> as FigureShelf {
         }
     }
 
-    fn pixel(&self, k: u32, x: u32, y: u32) -> Option<P>
-        ensures told { λ r. ⌜ r ≡ told (P·Pixel .solid) (now (self .entry)) .pixel k x y ⌝ }
-        ensures drawn { λ _. ⌜ Drawn (now (self .entry) .scale) (now (self .entry) .shown .value) (now (self .entry) .ink) (now (self .entry) .paper) ⌝ }
-    {
+    fn pixel(&self, k: u32, x: u32, y: u32) -> Option<P> {
         let z = self.scale;
         if k == 0 && x < 15 * z && y < 5 * z {
             Some(if has_ink(self.shown, x / z, y / z) {
