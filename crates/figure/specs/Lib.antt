@@ -1,0 +1,4 @@
+pub mod Characters
+pub mod Glyphs
+pub mod Figures
+pub mod Owed

@@ -1,0 +1,3 @@
+pub mod Pages
+pub mod Sheets
+pub mod Owed

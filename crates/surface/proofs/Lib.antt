@@ -1,0 +1,3 @@
+pub mod Hulls
+pub mod Pairs
+pub mod Singles

@@ -1,0 +1,11 @@
+pub mod Told
+pub mod Sound
+pub mod Damaged
+pub mod Answered
+pub mod Settled
+pub mod Hull
+pub mod Single
+pub mod SingleOwed
+pub mod Beside
+pub mod Paired
+pub mod PairOwed
