@@ -79,12 +79,16 @@ set-in s m x y p l xw yh b i j =
     (cases-bool (inside (s .width) (s .height) i j)))
     (cases-bool (hit (s .back) x y b i j))
 
--- what a write says of each pixel, at the spot that was found
-pub wrote-in : {P : Type 0} (s : State) (m m' : List P) (x y n at : ℕ) (p : P) → n ≡ s .width * s .height → Found s m x y at → m' ≡ set m (s .back * n + at) p → (b i j : ℕ) →
+-- where a write lands, at the spot that was found
+pub stored-at : {P : Type 0} (s : State) (m m' : List P) (x y n at : ℕ) (p : P) → n ≡ s .width * s .height → Found s m x y at → m' ≡ set m (s .back * n + at) p →
+    m' ≡ set m (place (s .layout) (s .width) (s .height) (s .back) x y) p
+stored-at s m m' x y n at p size f e =
+    e ∙ ap (λ (k : ℕ). set m k p) (ap (λ (k : ℕ). s .back * k + at) size ∙ ap (λ (k : ℕ). s .back * (s .width * s .height) + k) (f .is))
+
+-- what a write there says of each pixel
+pub wrote-in : {P : Type 0} (s : State) (m m' : List P) (x y at : ℕ) (p : P) → Found s m x y at → m' ≡ set m (place (s .layout) (s .width) (s .height) (s .back) x y) p → (b i j : ℕ) →
     pixelIn s m' b i j ≡ cond (hit (s .back) x y b i j) (Some p) (pixelIn s m b i j)
-wrote-in s m m' x y n at p size f e b i j =
-    let g = ap (λ (k : ℕ). s .back * k + at) size ∙ ap (λ (k : ℕ). s .back * (s .width * s .height) + k) (f .is) in
-    ap (λ (l : List _). pixelIn s l b i j) (e ∙ ap (λ (k : ℕ). set m k p) g) ∙ set-in s m x y p (f .long) (f .column) (f .row) b i j
+wrote-in s m m' x y at p f e b i j = ap (λ (l : List _). pixelIn s l b i j) e ∙ set-in s m x y p (f .long) (f .column) (f .row) b i j
 
 -- the memory has its length still
 pub same-exact : {P : Type 0} (s : State) (m m' : List P) (i : ℕ) (p : P) → m' ≡ set m i p → exact s m' ≡ exact s m

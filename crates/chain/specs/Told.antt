@@ -4,9 +4,9 @@ use mathlib.Core.Bool.{Bool, true, false, cond, _&&_}
 use mathlib.Core.List.{List, [], _∷_}
 use Prim.Native.Nat.{ℕ, zero, suc, _+_, _*_, _<_, _≤_}
 use native.Mathlib.Omega.{arith}
-use lib.ListN.{length}
+use lib.ListN.{length, set}
 use lib.Dec.{eqb, ltb}
-use denote.Ref.{now}
+use denote.Ref.{now, name}
 use Rattle.std.specs.Options.{isSome}
 use Rattle.std.specs.shelf.Maps.{nth}
 use Rattle.std.specs.declared.option.Option.{Option}
@@ -54,6 +54,16 @@ told s m =
 -- what the buffers of a chain tell
 abbrev pub screens : {P : Type 0} → Buffers P → Screens P
 screens b = told (b .state) (now (b .mem))
+
+-- the memory is the caller's still, and holds what it held
+pub record Untouched {P : Type 0} (before after : Buffers P) : Type 0 where
+  pub memory : now (after .mem) ≡ now (before .mem)
+  pub lent : name (after .mem) ≡ name (before .mem)
+
+-- the memory is the caller's still, and a write answered by r altered one place of it or none
+pub record Stored {P : Type 0} (before : Buffers P) (x y : ℕ) (p : P) (r : Bool) (after : Buffers P) : Type 0 where
+  pub memory : now (after .mem) ≡ cond r (set (now (before .mem)) (place (before .state .layout) (before .state .width) (before .state .height) (before .state .back) x y) p) (now (before .mem))
+  pub lent : name (after .mem) ≡ name (before .mem)
 
 -- The proof, owed by each kind of chain, that what is told is sound.
 

@@ -7,7 +7,7 @@ ghost use Rattle.chain.specs.Screens.{backAge, backPixel, frontPixel};
 ghost use Rattle.chain.specs.Writes.{Puts};
 ghost use Rattle.chain.specs.Swaps.{Turned};
 ghost use Rattle.chain.specs.Begins.{Begins, fitting};
-ghost use Rattle.chain.specs.Told.{screens};
+ghost use Rattle.chain.specs.Told.{screens, Stored, Untouched};
 use crate::aging::age_of;
 use crate::buffers::Buffers;
 use crate::layout::Layout;
@@ -38,7 +38,7 @@ impl<'a, P: Pixel> Buffers<'a, P> {
     pub fn width(&mut self) -> u32
         ensures gives { λ r. ⌜ r ≡ screens (now (self .entry)) .width ⌝ }
         ensures same { λ _. ⌜ screens (now (self .exit)) ≡ screens (now (self .entry)) ⌝ }
-        ensures lends { λ _. ⌜ name (now (self .exit) .mem) ≡ name (now (self .entry) .mem) ⌝ }
+        ensures untouched { λ _. ⌜ Untouched (now (self .entry)) (now (self .exit)) ⌝ }
     {
         let len = self.mem.len();
         if self.state.is_exact(len) {
@@ -51,7 +51,7 @@ impl<'a, P: Pixel> Buffers<'a, P> {
     pub fn height(&mut self) -> u32
         ensures gives { λ r. ⌜ r ≡ screens (now (self .entry)) .height ⌝ }
         ensures same { λ _. ⌜ screens (now (self .exit)) ≡ screens (now (self .entry)) ⌝ }
-        ensures lends { λ _. ⌜ name (now (self .exit) .mem) ≡ name (now (self .entry) .mem) ⌝ }
+        ensures untouched { λ _. ⌜ Untouched (now (self .entry)) (now (self .exit)) ⌝ }
     {
         let len = self.mem.len();
         if self.state.is_exact(len) {
@@ -66,7 +66,7 @@ impl<'a, P: Pixel> Buffers<'a, P> {
         ensures gives { λ r. ⌜ r ≡ screens (now (self .entry)) .back ⌝ }
         ensures below { λ r. ⌜ r < 4 ⌝ }
         ensures same { λ _. ⌜ screens (now (self .exit)) ≡ screens (now (self .entry)) ⌝ }
-        ensures lends { λ _. ⌜ name (now (self .exit) .mem) ≡ name (now (self .entry) .mem) ⌝ }
+        ensures untouched { λ _. ⌜ Untouched (now (self .entry)) (now (self .exit)) ⌝ }
     {
         self.state.back
     }
@@ -75,7 +75,7 @@ impl<'a, P: Pixel> Buffers<'a, P> {
     pub fn age(&mut self) -> u8
         ensures gives { λ r. ⌜ r ≡ backAge (screens (now (self .entry))) ⌝ }
         ensures same { λ _. ⌜ screens (now (self .exit)) ≡ screens (now (self .entry)) ⌝ }
-        ensures lends { λ _. ⌜ name (now (self .exit) .mem) ≡ name (now (self .entry) .mem) ⌝ }
+        ensures untouched { λ _. ⌜ Untouched (now (self .entry)) (now (self .exit)) ⌝ }
     {
         age_of(self.state.ages, self.state.back)
     }
@@ -83,7 +83,7 @@ impl<'a, P: Pixel> Buffers<'a, P> {
     pub fn back_pixel(&mut self, x: u32, y: u32) -> Option<P>
         ensures gives { λ r. ⌜ r ≡ backPixel (screens (now (self .entry))) x y ⌝ }
         ensures same { λ _. ⌜ screens (now (self .exit)) ≡ screens (now (self .entry)) ⌝ }
-        ensures lends { λ _. ⌜ name (now (self .exit) .mem) ≡ name (now (self .entry) .mem) ⌝ }
+        ensures untouched { λ _. ⌜ Untouched (now (self .entry)) (now (self .exit)) ⌝ }
     {
         let state = self.state;
         back_in(self.mem, &state, x, y)
@@ -92,7 +92,7 @@ impl<'a, P: Pixel> Buffers<'a, P> {
     pub fn front_pixel(&mut self, x: u32, y: u32) -> Option<P>
         ensures gives { λ r. ⌜ r ≡ frontPixel (screens (now (self .entry))) x y ⌝ }
         ensures same { λ _. ⌜ screens (now (self .exit)) ≡ screens (now (self .entry)) ⌝ }
-        ensures lends { λ _. ⌜ name (now (self .exit) .mem) ≡ name (now (self .entry) .mem) ⌝ }
+        ensures untouched { λ _. ⌜ Untouched (now (self .entry)) (now (self .exit)) ⌝ }
     {
         let state = self.state;
         front_in(self.mem, &state, x, y)
@@ -101,7 +101,7 @@ impl<'a, P: Pixel> Buffers<'a, P> {
     // Writes one pixel of the back, or nothing off the display.
     pub fn write(&mut self, x: u32, y: u32, p: P) -> bool
         ensures puts { λ r. ⌜ Puts (screens (now (self .entry))) x y p r (screens (now (self .exit))) ⌝ }
-        ensures lends { λ _. ⌜ name (now (self .exit) .mem) ≡ name (now (self .entry) .mem) ⌝ }
+        ensures stored { λ r. ⌜ Stored (now (self .entry)) x y p r (now (self .exit)) ⌝ }
     {
         let mut state = self.state;
         let done = write_in(self.mem, &mut state, x, y, p);
@@ -112,8 +112,7 @@ impl<'a, P: Pixel> Buffers<'a, P> {
     // Shows the back and picks buffer `pick`, modulo their number; forgets it if asked, unless it is what is shown.
     pub fn turn(&mut self, pick: u32, forget: bool)
         ensures turns { λ _. ⌜ Turned (screens (now (self .entry))) (pick % screens (now (self .entry)) .count) forget (screens (now (self .exit))) ⌝ }
-        ensures kept { λ _. ⌜ now (now (self .exit) .mem) ≡ now (now (self .entry) .mem) ⌝ }
-        ensures lends { λ _. ⌜ name (now (self .exit) .mem) ≡ name (now (self .entry) .mem) ⌝ }
+        ensures untouched { λ _. ⌜ Untouched (now (self .entry)) (now (self .exit)) ⌝ }
     {
         self.state.turn(pick, forget);
     }

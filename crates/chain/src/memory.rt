@@ -5,6 +5,7 @@ ghost use lib.ListN.{length, set};
 ghost use Rattle.std.specs.declared.option.Option.the-variants.{Some, None};
 ghost use Rattle.chain.specs.Screens.{backPixel, frontPixel};
 ghost use Rattle.chain.specs.Writes.{Puts};
+ghost use Rattle.chain.specs.Places.{place};
 ghost use Rattle.chain.specs.Told.{told, pixelIn};
 use crate::state::State;
 use pixel::Pixel;
@@ -58,7 +59,8 @@ pub fn front_in<P: Pixel>(memory: &mut [P], state: &State, x: u32, y: u32) -> Op
 
 // Writes one pixel of the back, and counts it.
 pub fn write_in<P: Pixel>(memory: &mut [P], state: &mut State, x: u32, y: u32, p: P) -> bool
-    ensures { λ r. ⌜ Puts (told (now (state .entry)) (now (memory .entry))) x y p r (told (now (state .exit)) (now (memory .exit))) ⌝ }
+    ensures puts { λ r. ⌜ Puts (told (now (state .entry)) (now (memory .entry))) x y p r (told (now (state .exit)) (now (memory .exit))) ⌝ }
+    ensures stored { λ r. ⌜ now (memory .exit) ≡ cond r (set (now (memory .entry)) (place (now (state .entry) .layout) (now (state .entry) .width) (now (state .entry) .height) (now (state .entry) .back) x y) p) (now (memory .entry)) ⌝ }
 {
     let Some(at) = state.spot(memory.len(), x, y) else {
         return false;

@@ -1,0 +1,13 @@
+mod digits;
+mod picking;
+mod picks;
+mod rotating;
+mod single;
+
+pub use picking::Picking;
+pub use picking::PickingChain;
+pub use picks::Picks;
+pub use rotating::Rotating;
+pub use rotating::RotatingChain;
+pub use single::Single;
+pub use single::SingleChain;
