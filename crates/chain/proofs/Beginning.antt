@@ -4,13 +4,14 @@ use mathlib.Core.Bool.{Bool, true, false, cond, _&&_}
 use mathlib.Core.List.{List}
 use Prim.Native.Nat.{ℕ, _+_, _*_, _≤_, _<_}
 use native.Mathlib.Omega.{arith}
-use lib.ListN.{length}
+use lib.ListN.{length, set}
 use lib.Dec.{eqb, ltb}
 use Rattle.std.specs.shelf.Maps.{nth}
 use Rattle.std.specs.declared.option.Option.the-variants.{Some, None}
 use Rattle.std.proofs.shelf.Ways.{tells}
 use Rattle.chain.specs.Screens.{Screens, inside}
 use Rattle.chain.specs.Places.{place}
+use Rattle.chain.specs.Writes.{Puts}
 use Rattle.chain.specs.Begins.{Begins, fitting, BeginIsFunction}
 use Rattle.chain.specs.Told.{told, ageOf, unaged}
 use Rattle.chain.specs.declared.ages.Ages.{Ages}
@@ -53,3 +54,27 @@ begins s m o least w h n d a b =
       front = b .1;
       writes = b .3;
     }
+
+-- the answer to a first write, and where it lands
+pub record First {P : Type 0} (o : Layout) (m : List P) (w h x y : ℕ) (p : P) (r : Bool) (m' : List P) : Type 0 where
+  pub answers : r ≡ (fitting 1 w h 1 (length m) && inside w h x y)
+  pub leaves : m' ≡ cond r (set m (place o w h 0 x y) p) m
+
+first-by : {P : Type 0} (s t : Screens P) (o : Layout) (m m' : List P) (w h x y a b c : ℕ) (p : P) (r f : Bool) → f ≡ fitting 1 w h 1 (length m) →
+    Begins o m f w h 1 s → a ≡ cond f w 0 → b ≡ cond f h 0 → c ≡ 0 → Puts s x y p r t → m' ≡ cond r (set m (place o a b c x y) p) m → First o m w h x y p r m'
+first-by s t o m m' w h x y a b c p r true e d i j k g l =
+    record {
+      answers = let q = g .yes in let u = d .width in let v = d .height in grind (arith, tells);
+      leaves = l ∙ ap (λ (n : ℕ). cond r (set m n p) m) (ap (λ (n : ℕ). place o n b c x y) i ∙ ap (λ (n : ℕ). place o w n c x y) j ∙ ap (λ (n : ℕ). place o w h n x y) k);
+    }
+first-by s t o m m' w h x y a b c p true false e d i j k g l = let q = g .yes in let u = d .width in let v = d .height in let z : _≡_ {A = ℕ} 0 1 = grind (arith, tells) in absurd (omega arith)
+first-by s t o m m' w h x y a b c p false false e d i j k g l = record { answers = grind (arith, tells); leaves = l }
+
+pub first : {P : Type 0} (s : State) (t : Screens P) (o : Layout) (m m' : List P) (w h x y : ℕ) (p : P) (r : Bool) → s .layout ≡ o →
+    (s .width ≡ cond (fitting 1 w h 1 (length m)) w 0) × (s .height ≡ cond (fitting 1 w h 1 (length m)) h 0) × (s .count ≡ cond (fitting 1 w h 1 (length m)) 1 1) →
+    (s .back ≡ 0) × (s .front ≡ None) × (s .ages ≡ unaged) × (s .writes ≡ 0) →
+    Puts (told s m) x y p r t → m' ≡ cond r (set m (place (s .layout) (s .width) (s .height) (s .back) x y) p) m → First o m w h x y p r m'
+first s t o m m' w h x y p r d a b g l =
+    first-by (told s m) t o m m' w h x y (s .width) (s .height) (s .back) p r (fitting 1 w h 1 (length m)) refl
+    (begins s m o 1 w h 1 d a b) (a .0) (a .1) (b .0) g
+    (l ∙ ap (λ (k : Layout). cond r (set m (place k (s .width) (s .height) (s .back) x y) p) m) d)

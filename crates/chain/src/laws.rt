@@ -1,13 +1,19 @@
 ghost use mathlib.Core.Path.{_≡_};
-ghost use mathlib.Core.Bool.{Bool, cond};
+ghost use mathlib.Core.Bool.{Bool, cond, _&&_};
+ghost use Prim.Native.Nat.{ℕ};
+ghost use lib.ListN.{length, set};
 ghost use denote.Ref.{now};
 ghost use Rattle.std.specs.declared.option.Option.the-variants.{Some, None};
-ghost use Rattle.chain.specs.Screens.{onDisplay};
+ghost use Rattle.chain.specs.Screens.{inside, onDisplay};
 ghost use Rattle.chain.specs.Writes.{written, WriteIsFunction};
 ghost use Rattle.chain.specs.Swaps.{TurnSwaps, TurnIsFunction};
-ghost use Rattle.chain.specs.Begins.{BeginIsFunction};
+ghost use Rattle.chain.specs.Begins.{BeginIsFunction, fitting};
+ghost use Rattle.chain.specs.Places.{place};
 ghost use Rattle.chain.specs.Frames.{ShowTells};
+use crate::buffers::Buffers;
 use crate::chain::Chain;
+use crate::layout::Layout;
+use crate::state::State;
 use pixel::Pixel;
 
 // Writes one pixel of the back and reads it: it is what was written, if it is on the display.
@@ -17,6 +23,25 @@ pub fn write_then_read<P: Pixel, C: Chain<P>>(chain: &mut C, x: u32, y: u32, p: 
 {
     chain.write(x, y, p);
     chain.back_pixel(x, y)
+}
+
+// Writes one pixel of a new chain of one buffer. A chain only borrows the caller's memory: once it is gone, the memory
+// holds what was written.
+pub fn write_once<P: Pixel>(
+    mem: &mut [P],
+    layout: Layout,
+    width: u32,
+    height: u32,
+    x: u32,
+    y: u32,
+    p: P,
+) -> bool
+    ensures answers { λ r. ⌜ r ≡ fitting 1 width height 1 (length (now (mem .entry))) && inside width height x y ⌝ }
+    ensures leaves { λ r. ⌜ now (mem .exit) ≡ cond r (set (now (mem .entry)) (place layout width height 0 x y) p) (now (mem .entry)) ⌝ }
+{
+    let state = State::new(layout, mem.len(), 1, width, height, 1);
+    let mut buffers = Buffers { mem, state };
+    buffers.write(x, y, p)
 }
 
 // What a chain tells after a write, after a swap that says what it picks, and when it is new, is a function of what it

@@ -1,9 +1,8 @@
 -- The swaps of a picking chain.
 use mathlib.Core.Path.{_≡_}
-use mathlib.Core.List.{List, [], _∷_}
-use Prim.Native.Nat.{ℕ, zero, suc, _%_}
+use Prim.Native.Nat.{ℕ, zero, suc, _+_, _%_}
 use lib.Dec.{leb}
-use Rattle.chain.specs.Screens.{Screens, backAge}
+use Rattle.chain.specs.Screens.{Screens}
 use Rattle.chain.specs.Swaps.{Turned, turned}
 use Rattle.chains.specs.Digits.{following, digit}
 use Rattle.chains.specs.declared.picks.Picks.{Picks}
@@ -22,7 +21,7 @@ pub record Advanced (p q : Picks) : Type 0 where
   pub number : q .number ≡ p .number
   pub at : q .at ≡ following (p .at) 16
 
--- the ages that k shows meet, from digit i of a number on
-abbrev pub agesMet : {P : Type 0} → ℕ → ℕ → ℕ → Screens P → List ℕ
-agesMet zero number i s = []
-agesMet (suc k) number i s = backAge s ∷ agesMet k number (following i 16) (picked s (digit number i))
+-- after k such swaps, from digit i of a number on
+abbrev pub pickings : {P : Type 0} → ℕ → ℕ → ℕ → Screens P → Screens P
+pickings number i zero s = s
+pickings number i (suc k) s = picked (pickings number i k s) (digit number ((i + k) % 16))

@@ -1,7 +1,6 @@
 -- The swaps of a rotating chain.
 use mathlib.Core.Path.{_≡_}
 use mathlib.Core.Bool.{false}
-use mathlib.Core.List.{List, [], _∷_}
 use Prim.Native.Nat.{ℕ, zero, suc, _≤_, _<_}
 use Rattle.chain.specs.Screens.{Screens, backAge}
 use Rattle.chain.specs.Swaps.{Turned, turned}
@@ -24,8 +23,3 @@ rotations (suc k) s = rotated (rotations k s)
 -- is n.
 abbrev pub Settles : {P : Type 0} → Screens P → ℕ → Screens P → Type 0
 Settles s k t = s .count ≤ k → backAge t ≡ s .count
-
--- the ages that k shows meet
-abbrev pub agesMet : {P : Type 0} → ℕ → Screens P → List ℕ
-agesMet zero s = []
-agesMet (suc k) s = backAge s ∷ agesMet k (rotated s)

@@ -2,6 +2,7 @@ mod digits;
 mod picking;
 mod picks;
 mod rotating;
+mod runs;
 mod single;
 
 pub use picking::Picking;
@@ -9,5 +10,7 @@ pub use picking::PickingChain;
 pub use picks::Picks;
 pub use rotating::Rotating;
 pub use rotating::RotatingChain;
+pub use runs::swap_times;
+pub use runs::worked_ages;
 pub use single::Single;
 pub use single::SingleChain;
