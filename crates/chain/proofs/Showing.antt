@@ -1,7 +1,7 @@
 -- Ages tell frames.
 use mathlib.Core.Path.{_≡_, refl, sym, ap, subst, _∙_}
 use mathlib.Core.Bool.{Bool, true, false, cond, _&&_}
-use mathlib.Core.List.{List, _∷_}
+use mathlib.Core.List.{List, [], _∷_}
 use mathlib.Core.Logic.{_≢_, ⊎-elim}
 use Prim.Native.Nat.{ℕ, zero, suc, _+_, _≤_, _<_, min}
 use native.Mathlib.Omega.{arith}
@@ -15,7 +15,11 @@ use Rattle.chain.specs.Screens.{Screens, backPixel, frontPixel, pixelOf}
 use Rattle.chain.specs.Writes.{Wrote, Puts}
 use Rattle.chain.specs.Ages.{older}
 use Rattle.chain.specs.Swaps.{Swapped}
-use Rattle.chain.specs.Frames.{Frame, Holds, Kept, ShowTells}
+use Rattle.chain.specs.Frames.{Frame, Holds, Ran, begun, wrote, showed, AgesTell}
+
+-- every buffer but the back, which may have been written since
+record Kept {P : Type 0} (frames : List (Frame P)) (s : Screens P) : Type 0 where
+  others : (b : ℕ) → b < s .count → b ≢ s .back → Holds frames s b
 
 -- a write leaves the other buffers
 wrote-kept : {P : Type 0} (frames : List (Frame P)) (s t : Screens P) (x y : ℕ) (p : P) → Wrote s x y p t → Kept frames s → Kept frames t
@@ -55,10 +59,18 @@ shown frames s t w k b lt =
     (λ ne. later frames s t w k b (omega (arith, w .count)) ne)
     (cases-eq b (s .back))
 
-pub show-tells : {P : Type 0} → ShowTells P
-show-tells =
+none : {P : Type 0} (s : Screens P) → Kept [] s
+none s = record { others = λ b lt ne n f small old at x y. let z : _≡_ {A = ℕ} 0 1 = cc in absurd (omega arith) }
+
+ran : {P : Type 0} (frames : List (Frame P)) (s : Screens P) → Ran frames s → Kept frames s
+ran _ _ (begun s) = none s
+ran _ _ (wrote frames s t x y p r a w) = puts-kept frames s t x y p r (w .done) (w .not) (ran frames s a)
+ran _ _ (showed frames s t a w) = record { others = λ b lt _. shown frames s t w (ran frames s a) b lt }
+
+pub ages-tell : {P : Type 0} → AgesTell P
+ages-tell =
     record {
-      written = λ frames s t x y p r w k. puts-kept frames s t x y p r (w .done) (w .not) k;
-      shown = shown;
+      kept = λ frames s a. ran frames s a .others;
+      met = λ frames s t a w. shown frames s t w (ran frames s a);
       seen = λ s t w x y. ap (λ (o : Option ℕ). pixelOf t o x y) (w .front) ∙ w .shown x y;
     }

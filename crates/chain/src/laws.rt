@@ -9,7 +9,7 @@ ghost use Rattle.chain.specs.Writes.{written, WriteIsFunction};
 ghost use Rattle.chain.specs.Swaps.{TurnSwaps, TurnIsFunction};
 ghost use Rattle.chain.specs.Begins.{BeginIsFunction, fitting};
 ghost use Rattle.chain.specs.Places.{place};
-ghost use Rattle.chain.specs.Frames.{ShowTells};
+ghost use Rattle.chain.specs.Frames.{AgesTell};
 use crate::buffers::Buffers;
 use crate::chain::Chain;
 use crate::layout::Layout;
@@ -57,7 +57,7 @@ pub fn steps_are_functions<P: Pixel>() -> bool
 
 // A buffer's age tells which frame it holds.
 pub fn ages_tell_frames<P: Pixel>() -> bool
-    ensures { λ _. ⌜ ShowTells P ⌝ }
+    ensures { λ _. ⌜ AgesTell P ⌝ }
 {
     true
 }
