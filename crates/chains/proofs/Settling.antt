@@ -73,5 +73,5 @@ settles s t k lt few e le =
     let h = whole-round (rotations m s) (s .count) (sym c) (omega arith) (omega arith) in
     ap backAge (e ∙ ap (λ (n : ℕ). rotations n s) d ∙ rotations-after (s .count) m s) ∙ h ∙ c
 
-pub rotate-more : {P : Type 0} (s t u : Screens P) (i : ℕ) → t ≡ rotations i s → Rotated t u → u ≡ rotations (i + 1) s
-rotate-more s t u i e r = turn-is-function t u _ _ r ∙ ap rotated e ∙ sym (ap (λ (n : ℕ). rotations n s) (add-one i))
+pub rotate-more : {P : Type 0} (s t v u : Screens P) (i : ℕ) → t ≡ rotations i s → v ≡ t → Rotated v u → u ≡ rotations (i + 1) s
+rotate-more s t v u i e f r = turn-is-function v u _ _ r ∙ ap rotated (f ∙ e) ∙ sym (ap (λ (n : ℕ). rotations n s) (add-one i))

@@ -11,7 +11,7 @@ pub loop-holds : need.loop-holds
 loop-holds g c = (refl, record { memory = refl; lent = refl })
 
 pub loop-again : need.loop-again
-loop-again g c = (rotate-more _ _ _ (c .loop .counter) (c .loop .inv .0) (c .swap .ensures .turns), still _ _ _ (c .loop .inv .1) (c .swap .ensures .untouched))
+loop-again g c = (rotate-more _ _ _ _ (c .loop .counter) (c .loop .inv .0) refl (c .swap .ensures .turns), still _ _ _ (c .loop .inv .1) (c .swap .ensures .untouched))
 
 pub returns : need.returns
 returns g c =
