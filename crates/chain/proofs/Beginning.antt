@@ -1,18 +1,18 @@
 -- What a new chain tells.
-use mathlib.Core.Path.{_≡_, refl, sym, ap, _∙_}
+use mathlib.Core.Path.{_≡_, refl, ap, _∙_}
 use mathlib.Core.Bool.{Bool, true, false, cond, _&&_}
 use mathlib.Core.List.{List}
-use Prim.Native.Nat.{ℕ, _+_, _*_, _≤_, _<_}
+use Prim.Native.Nat.{ℕ, _*_}
 use native.Mathlib.Omega.{arith}
 use lib.ListN.{length, set}
 use lib.Dec.{eqb, ltb}
 use Rattle.std.specs.shelf.Maps.{nth}
-use Rattle.std.specs.declared.option.Option.the-variants.{Some, None}
+use Rattle.std.specs.declared.option.Option.the-variants.{None}
 use Rattle.std.proofs.shelf.Ways.{tells}
 use Rattle.chain.specs.Screens.{Screens, inside}
 use Rattle.chain.specs.Places.{place}
 use Rattle.chain.specs.Writes.{Puts}
-use Rattle.chain.specs.Begins.{Begins, fitting, BeginIsFunction}
+use Rattle.chain.specs.Begins.{Begins, fitting}
 use Rattle.chain.specs.Told.{told, ageOf, unaged}
 use Rattle.chain.specs.declared.ages.Ages.{Ages}
 use Rattle.chain.specs.declared.layout.Layout.{Layout}

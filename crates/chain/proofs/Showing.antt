@@ -1,19 +1,17 @@
 -- Ages tell frames.
 use mathlib.Core.Path.{_≡_, refl, sym, ap, subst, _∙_}
-use mathlib.Core.Bool.{Bool, true, false, cond, _&&_}
+use mathlib.Core.Bool.{Bool, true, false}
 use mathlib.Core.List.{List, [], _∷_}
 use mathlib.Core.Logic.{_≢_, ⊎-elim}
-use Prim.Native.Nat.{ℕ, zero, suc, _+_, _≤_, _<_, min}
+use Prim.Native.Nat.{ℕ, zero, suc, _<_}
 use native.Mathlib.Omega.{arith}
-use lib.Dec.{eqb}
 use Rattle.std.specs.shelf.Maps.{nth}
 use Rattle.std.specs.declared.option.Option.{Option}
 use Rattle.std.specs.declared.option.Option.the-variants.{Some, None}
 use Rattle.std.proofs.shelf.Ways.{tells}
-use Rattle.std.proofs.shelf.Tests.{cases-eq, cases-bool}
-use Rattle.chain.specs.Screens.{Screens, backPixel, frontPixel, pixelOf}
-use Rattle.chain.specs.Writes.{Wrote, Puts}
-use Rattle.chain.specs.Ages.{older}
+use Rattle.std.proofs.shelf.Tests.{cases-eq}
+use Rattle.chain.specs.Screens.{Screens, backPixel, pixelOf}
+use Rattle.chain.specs.Writes.{Wrote}
 use Rattle.chain.specs.Swaps.{Swapped}
 use Rattle.chain.specs.Frames.{Frame, Holds, Ran, begun, wrote, showed, AgesTell}
 

@@ -1,18 +1,17 @@
 -- What a step leaves is one outcome.
-use mathlib.Core.Path.{_≡_, refl, sym, ap, _∙_}
+use mathlib.Core.Path.{_≡_, refl, ap, _∙_}
 use mathlib.Core.Bool.{Bool, true, false, cond, _&&_}
-use mathlib.Core.List.{List}
-use Prim.Native.Nat.{ℕ, _+_, _%_, _^_, _≤_, _<_}
+use Prim.Native.Nat.{ℕ}
 use native.Mathlib.Omega.{arith}
-use lib.Dec.{eqb, ltb}
+use lib.Dec.{ltb}
 use Rattle.std.specs.Options.{isSome}
 use Rattle.std.specs.declared.option.Option.{Option}
 use Rattle.std.specs.declared.option.Option.the-variants.{Some, None}
 use Rattle.std.proofs.shelf.Ways.{tells}
 use Rattle.chain.specs.Screens.{Screens, Sound, onDisplay, backPixel}
-use Rattle.chain.specs.Writes.{Wrote, Puts, wrote, written, hit, WriteIsFunction}
-use Rattle.chain.specs.Swaps.{Swapped, Turned, turned, TurnSwaps, TurnIsFunction}
-use Rattle.chain.specs.Begins.{Begins, begun, BeginIsFunction}
+use Rattle.chain.specs.Writes.{Wrote, wrote, written, WriteIsFunction}
+use Rattle.chain.specs.Swaps.{TurnSwaps, TurnIsFunction}
+use Rattle.chain.specs.Begins.{BeginIsFunction}
 
 wrote-is : {P : Type 0} (s t : Screens P) (x y : ℕ) (p : P) → Wrote s x y p t → t ≡ wrote s x y p
 wrote-is s t x y p a = λ i. record { width = a .width i; height = a .height i; count = a .count i; pixel = λ b u v. a .pixel b u v i; age = λ b. a .age b i; back = a .back i; front = a .front i; writes = a .writes i }

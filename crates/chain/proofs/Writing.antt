@@ -1,22 +1,22 @@
 -- What is told of each pixel once one place of the memory is set.
 use mathlib.Core.Path.{_≡_, refl, sym, ap, _∙_}
-use mathlib.Core.Bool.{Bool, true, false, cond, _&&_}
+use mathlib.Core.Bool.{Bool, cond, _&&_}
 use mathlib.Core.Logic.{_≢_, ⊎-elim}
 use mathlib.Core.List.{List}
-use Prim.Native.Nat.{ℕ, _+_, _*_, _%_, _^_, _≤_, _<_}
+use Prim.Native.Nat.{ℕ, _+_, _*_, _<_}
 use native.Mathlib.Omega.{arith}
 use lib.ListN.{length, set, length-set, getD}
-use lib.Dec.{eqb, ltb}
+use lib.Dec.{eqb}
 use Rattle.std.specs.shelf.Maps.{nth}
 use Rattle.std.specs.declared.option.Option.the-variants.{Some, None}
 use Rattle.std.proofs.shelf.Ways.{tells}
 use Rattle.std.proofs.shelf.Maps.{nth-getD, nth-past, nth-read}
 use Rattle.std.proofs.shelf.Lists.{getD-set-other, getD-set-same}
 use Rattle.std.proofs.shelf.Tests.{cases-lt, cases-bool, and-parts, ltb-true}
-use Rattle.chain.specs.Screens.{Screens, inside}
-use Rattle.chain.specs.Writes.{Wrote, Puts, hit}
+use Rattle.chain.specs.Screens.{inside}
+use Rattle.chain.specs.Writes.{hit}
 use Rattle.chain.specs.Places.{spot, spotBelow, spotsApart, parts, place}
-use Rattle.chain.specs.Told.{told, pixelIn, exact}
+use Rattle.chain.specs.Told.{pixelIn, exact}
 use Rattle.chain.specs.declared.layout.Layout.{Layout}
 use Rattle.chain.specs.declared.state.State.{State}
 use Rattle.chain.proofs.Room.{placed}

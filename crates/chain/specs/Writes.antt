@@ -3,8 +3,8 @@ use mathlib.Core.Path.{_≡_}
 use mathlib.Core.Bool.{Bool, true, false, cond, _&&_}
 use Prim.Native.Nat.{ℕ, _+_, _%_, _^_}
 use lib.Dec.{eqb}
-use Rattle.std.specs.declared.option.Option.the-variants.{Some, None}
-use Rattle.chain.specs.Screens.{Screens, onDisplay, backPixel}
+use Rattle.std.specs.declared.option.Option.the-variants.{Some}
+use Rattle.chain.specs.Screens.{Screens, onDisplay}
 
 -- is u, v of buffer c the place x, y of buffer b
 abbrev pub hit : ℕ → ℕ → ℕ → ℕ → ℕ → ℕ → Bool

@@ -1,5 +1,4 @@
 ghost use mathlib.Core.Path.{_≡_};
-ghost use mathlib.Core.Bool.{Bool};
 ghost use denote.Ref.{now};
 ghost use Rattle.chain.specs.Screens.{Screens, Sound, backAge, backPixel, frontPixel};
 ghost use Rattle.chain.specs.Writes.{Puts};

@@ -1,6 +1,5 @@
 ghost use mathlib.Core.Path.{_≡_};
-ghost use mathlib.Core.Bool.{Bool, cond, _&&_};
-ghost use Prim.Native.Nat.{ℕ};
+ghost use mathlib.Core.Bool.{cond, _&&_};
 ghost use lib.ListN.{length, set};
 ghost use denote.Ref.{now};
 ghost use Rattle.std.specs.declared.option.Option.the-variants.{Some, None};

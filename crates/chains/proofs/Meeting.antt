@@ -1,8 +1,8 @@
 -- The ages that shows meet.
-use mathlib.Core.Path.{_≡_, refl, sym, ap, _∙_}
+use mathlib.Core.Path.{_≡_, sym, ap, _∙_}
 use mathlib.Core.Logic.{_≢_}
 use mathlib.Core.List.{List}
-use Prim.Native.Nat.{ℕ, suc, _+_, _≤_, _<_}
+use Prim.Native.Nat.{ℕ, _+_, _<_}
 use native.Mathlib.Omega.{arith}
 use native.Mathlib.Numerals.{add-one}
 use borrow.Author.Count.{below-more}
@@ -10,15 +10,12 @@ use lib.ListN.{length, getD, set}
 use Rattle.std.proofs.shelf.Lists.{getD-set-same, getD-set-other}
 use Rattle.chain.specs.Screens.{Screens, backAge}
 use Rattle.chain.specs.Swaps.{Turned, turned}
-use Rattle.chain.specs.Told.{Untouched}
-use Rattle.chain.specs.declared.buffers.Buffers.{Buffers}
 use Rattle.chain.proofs.Steps.{turn-is-function}
 use Rattle.chains.specs.Digits.{following, further, digit}
 use Rattle.chains.specs.Picked.{Picked, picked, pickings, Advanced}
 use Rattle.chains.specs.Met.{repeats}
 use Rattle.chains.specs.declared.picks.Picks.{Picks}
 use mathlib.Core.Bool.{false}
-use Rattle.chains.proofs.Turning.{still}
 
 -- one age more is noted
 pub note-more : {P : Type 0} (after : ℕ → Screens P) (ages : List ℕ) (i a : ℕ) (t : Screens P) → i < length ages → a ≡ backAge t → t ≡ after i →

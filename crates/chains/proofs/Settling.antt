@@ -1,7 +1,7 @@
 -- A rotating chain settles to the age that is its number of buffers.
 use mathlib.Core.Path.{_≡_, refl, sym, ap, subst, _∙_}
-use mathlib.Core.Bool.{Bool, true, false, cond, _&&_}
-use Prim.Native.Nat.{ℕ, zero, suc, _+_, _-_, _≤_, _<_, min}
+use mathlib.Core.Bool.{cond}
+use Prim.Native.Nat.{ℕ, zero, suc, _+_, _-_, _≤_, _<_}
 use native.Mathlib.Omega.{arith}
 use native.Mathlib.Nat.{add-suc, add-zero}
 use native.Mathlib.Numerals.{add-one}
@@ -10,7 +10,6 @@ use mathlib.Core.Logic.{⊎-elim}
 use Rattle.std.proofs.shelf.Tests.{cases-lt}
 use Rattle.std.proofs.shelf.Ways.{tells}
 use Rattle.chain.specs.Screens.{Screens, backAge}
-use Rattle.chain.specs.Swaps.{Turned, turned}
 use Rattle.chain.specs.Ages.{older}
 use Rattle.chain.proofs.Steps.{turn-is-function}
 use Rattle.chains.specs.Digits.{following}

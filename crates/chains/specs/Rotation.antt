@@ -1,7 +1,7 @@
 -- The swaps of a rotating chain.
 use mathlib.Core.Path.{_≡_}
 use mathlib.Core.Bool.{false}
-use Prim.Native.Nat.{ℕ, zero, suc, _≤_, _<_}
+use Prim.Native.Nat.{ℕ, zero, suc, _≤_}
 use Rattle.chain.specs.Screens.{Screens, backAge}
 use Rattle.chain.specs.Swaps.{Turned, turned}
 use Rattle.chains.specs.Digits.{following}

@@ -1,4 +1,4 @@
-ghost use Prim.Native.Nat.{ℕ, _<_};
+ghost use Prim.Native.Nat.{_<_};
 
 // The digits of a number, four bits each, used lowest first and round again.
 #[derive(Clone, Copy)]

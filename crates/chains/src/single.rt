@@ -1,6 +1,5 @@
 ghost use mathlib.Core.Path.{_≡_};
 ghost use mathlib.Core.Bool.{false};
-ghost use Prim.Native.Nat.{ℕ};
 ghost use lib.ListN.{length};
 ghost use denote.Ref.{now, name};
 ghost use Rattle.chain.specs.Screens.{backAge, backPixel, frontPixel};

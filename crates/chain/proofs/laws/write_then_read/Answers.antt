@@ -1,4 +1,4 @@
-use mathlib.Core.Path.{_≡_, sym, ap, _∙_}
+use mathlib.Core.Path.{ap, _∙_}
 use Rattle.chain.specs.Screens.{Screens, backPixel}
 use Rattle.chain.proofs.Steps.{write-is-function, read-written}
 use Rattle.chain.proofs.laws.write_then_read.Needs as need

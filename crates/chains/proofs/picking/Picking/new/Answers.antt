@@ -1,4 +1,3 @@
-use borrow.Author.Needs.{needs}
 use Rattle.chains.proofs.Spelling.{spells-all}
 use Rattle.chains.proofs.picking.Picking.new.Needs as need
 

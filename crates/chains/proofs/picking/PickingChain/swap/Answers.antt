@@ -1,4 +1,3 @@
-use mathlib.Core.Path.{_≡_}
 use Rattle.chain.proofs.Steps.{turn-swaps}
 use Rattle.chains.proofs.Turning.{picks}
 use Rattle.chains.proofs.picking.PickingChain.swap.Needs as need
