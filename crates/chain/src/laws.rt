@@ -45,18 +45,14 @@ pub fn write_once<P: Pixel>(
 
 // What a chain tells after a write, after a swap that says what it picks, and when it is new, is a function of what it
 // told and of the call: chains that tell the same still do after the same calls, whatever their order of memory.
-pub fn steps_are_functions<P: Pixel>() -> bool
+pub fn steps_are_functions<P: Pixel>()
     ensures writes { λ _. ⌜ WriteIsFunction P ⌝ }
     ensures turns { λ _. ⌜ TurnIsFunction P ⌝ }
     ensures swaps { λ _. ⌜ TurnSwaps P ⌝ }
     ensures begins { λ _. ⌜ BeginIsFunction P ⌝ }
-{
-    true
-}
+{}
 
 // A buffer's age tells which frame it holds.
-pub fn ages_tell_frames<P: Pixel>() -> bool
+pub fn ages_tell_frames<P: Pixel>()
     ensures { λ _. ⌜ AgesTell P ⌝ }
-{
-    true
-}
+{}

@@ -64,8 +64,6 @@ pub fn meet_picking<P: Pixel>(chain: &mut Picking<'_, P>, ages: &mut [u8])
 }
 
 // The ages met on two worked examples.
-pub fn worked_ages<P: Pixel>() -> bool
+pub fn worked_ages<P: Pixel>()
     ensures { λ _. ⌜ Worked P ⌝ }
-{
-    true
-}
+{}
