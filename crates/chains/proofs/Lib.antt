@@ -1,0 +1,4 @@
+pub mod Turning
+pub mod Settling
+pub mod Meeting
+pub mod Spelling

@@ -1,0 +1,4 @@
+pub mod Digits
+pub mod Rotation
+pub mod Picked
+pub mod Met
