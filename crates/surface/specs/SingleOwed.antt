@@ -18,15 +18,8 @@ use Rattle.surface.specs.Told.{on, fair, fits, has, passes}
 use Rattle.surface.specs.Sound.{Sound, boxed}
 use Rattle.surface.specs.Single.{sides, single}
 
--- sides that are both above 0, or both 0
-both-fair : (w h : ℕ) → w ≤ 1024 → h ≤ 1024 → eqb w 0 ≡ eqb h 0 → fair (Some (record { width = w; height = h })) ≡ true
-both-fair w h i j e = ⊎-elim
-    (λ z. or-right _ _ (and-from _ _ z (sym e ∙ z)))
-    (λ z.
-    let p : w ≡ 0 → ⊥ = eqb-false w 0 z in
-    let q : h ≡ 0 → ⊥ = eqb-false h 0 (sym e ∙ z) in
-    or-left _ _ (and-from _ _ (and-from _ _ (le-leb 1 w (omega arith)) (le-leb w 1024 i)) (and-from _ _ (le-leb 1 h (omega arith)) (le-leb h 1024 j))))
-    (cases-bool (eqb w 0))
+both-fair : (w h : ℕ) → w ≤ 1024 → h ≤ 1024 → fair (Some (record { width = w; height = h })) ≡ true
+both-fair w h i j = and-from _ _ (le-leb w 1024 i) (le-leb h 1024 j)
 
 -- the whole surface, which may be closed, fits it
 whole-fits : (w h : ℕ) → eqb w 0 ≡ eqb h 0 → fits (Some (record { width = w; height = h })) (box 0 0 w h) ≡ true
@@ -95,7 +88,7 @@ module _ {P : Type 0} (hard : P → Bool) (w h : ℕ) (picture : ℕ → ℕ →
     few = omega arith;
     sized = λ k. only-first k _;
     solids = λ k. only-first k _;
-    sides = λ k. sides-fair (eqb k 0) _ (both-fair w h wide high both);
+    sides = λ k. sides-fair (eqb k 0) _ (both-fair w h wide high);
     pictures = λ k x y. seen k x y there;
     boxes = λ k. sides-boxed (eqb k 0) _ _
         (cond-both whole _ _ (λ v. fits (Some (record { width = w; height = h })) v ≡ true) (λ e. whole-fits w h both) (λ e. refl));

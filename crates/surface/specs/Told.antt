@@ -31,11 +31,10 @@ abbrev pub opened : Option Size → Bool
 opened None = false
 opened (Some z) = ltb 0 (z .width) && ltb 0 (z .height)
 
--- sides from 1 to 1,024; or both 0, and the surface is closed. There is no other surface
+-- sides from 0 to 1,024
 abbrev pub fair : Option Size → Bool
 fair None = true
-fair (Some z) = ((leb 1 (z .width) && leb (z .width) 1024) && (leb 1 (z .height) && leb (z .height) 1024))
-    || (eqb (z .width) 0 && eqb (z .height) 0)
+fair (Some z) = leb (z .width) 1024 && leb (z .height) 1024
 
 -- the box is told as (0, 0, 0, 0)
 abbrev pub bare : Rect → Bool

@@ -1,0 +1,3 @@
+pub mod Sights
+pub mod Paints
+pub mod Calls

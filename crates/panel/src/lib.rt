@@ -1,0 +1,11 @@
+// The panel: a stack of panes over a shelf, painted into a chain of picture buffers.
+mod asking;
+mod calls;
+mod looking;
+mod opening;
+mod painting;
+mod panel;
+mod sight;
+
+pub use panel::Panel;
+pub use panel::Unopened;

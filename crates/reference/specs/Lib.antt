@@ -1,0 +1,11 @@
+pub mod Stack
+pub mod Places
+pub mod Picture
+pub mod Refusals
+pub mod Damage
+pub mod Steps
+pub mod Painting
+pub mod Freshness
+pub mod History
+pub mod Agreement
+pub mod Kept

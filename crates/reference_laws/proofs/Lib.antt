@@ -1,0 +1,9 @@
+pub mod Places
+pub mod Pictures
+pub mod Stacks
+pub mod Freshness
+pub mod Regions
+pub mod Changes
+pub mod Calls
+pub mod Agreeing
+pub mod Painting

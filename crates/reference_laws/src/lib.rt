@@ -1,0 +1,1 @@
+// Laws of the reference compositor, cited by the proofs of the panel.
