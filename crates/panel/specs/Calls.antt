@@ -17,7 +17,7 @@ use Rattle.surface.specs.declared.order.Order.{Order}
 use Rattle.chain.specs.Screens.{Screens, backAge, frontPixel}
 use Rattle.chain.specs.Swaps.{Swapped}
 use Rattle.reference.specs.declared.call.Call.{Call}
-use Rattle.reference.specs.declared.call.Call.the-variants.{Tell}
+use Rattle.reference.specs.declared.call.Call.the-variants.{Tell, Show}
 use Rattle.reference.specs.declared.answer.Answer.{Answer}
 use Rattle.reference.specs.declared.answer.Answer.the-variants as answers
 use Rattle.reference.specs.declared.answer.Shown.{Shown}
@@ -167,3 +167,16 @@ module _ {P S C : Type 0} (m : Meaning P S C) where
   pub record Fixed (p q : Panel P S C) : Type 0 where
     pub base : q .base ≡ p .base
     pub display : q .display ≡ p .display
+
+  -- what each call promises: what it does with no premise, and that it so keeps the law of whole runs
+  pub record StackCall (p : Panel P S C) (call : Call) (r : Result (Unit {0}) Refusal) (q : Panel P S C) : Type 0 where
+    pub quietly : Quietly p call r q
+    pub keeps : Keeps p call (said r) q
+
+  pub record TellCall (p : Panel P S C) (k : ℤ) (o : Order) (r : Result Rect Refusal) (q : Panel P S C) : Type 0 where
+    pub told : Cases r (λ d. Taken p k o d q) (λ e. Declined p k o e q)
+    pub keeps : Keeps p (Tell k o) (saidOf r) q
+
+  pub record ShowCall (p : Panel P S C) (r : Shown) (q : Panel P S C) : Type 0 where
+    pub displays : Displays p r q
+    pub keeps : Keeps p Show (answers.Shown r) q

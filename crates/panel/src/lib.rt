@@ -6,6 +6,7 @@ mod opening;
 mod painting;
 mod panel;
 mod sight;
+mod working;
 
 pub use panel::Panel;
 pub use panel::Unopened;

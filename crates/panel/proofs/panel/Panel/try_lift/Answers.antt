@@ -13,7 +13,7 @@ use Rattle.reference_laws.proofs.Calls as calls
 use Rattle.scene.specs.States.{stateOf}
 use Rattle.panel.specs.Calls.{meaning}
 use Rattle.panel.proofs.Keeping.{lift-refusal, lift-done, refused-quietly, done-quietly, quietly-keeps}
-use Rattle.panel.proofs.panel.Panel.lift.Needs as need
+use Rattle.panel.proofs.panel.Panel.try_lift.Needs as need
 
 pub returns-in-Some : need.returns-in-Some
 returns-in-Some g c =

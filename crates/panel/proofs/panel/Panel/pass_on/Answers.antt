@@ -4,7 +4,7 @@ use Rattle.std.proofs.shelf.Signed.{toZ-ofZ}
 use Rattle.std.proofs.shelf.Tests.{not-true, not-false}
 use Rattle.panel.specs.Calls.{meaning}
 use Rattle.panel.proofs.Keeping.{told-taken, told-unknown, told-declined, told-keeps, declined-keeps}
-use Rattle.panel.proofs.panel.Panel.tell.Needs as need
+use Rattle.panel.proofs.panel.Panel.pass_on.Needs as need
 
 pub returns-in-Ok : need.returns-in-Ok
 returns-in-Ok g c =

@@ -1,7 +1,7 @@
 use Rattle.panel.specs.Calls.{meaning}
 use Rattle.panel.proofs.Showing.{show-displays}
 use Rattle.panel.proofs.Keeping.{displays-keeps}
-use Rattle.panel.proofs.panel.Panel.show.Needs as need
+use Rattle.panel.proofs.panel.Panel.repaint.Needs as need
 
 pub returns : need.returns
 returns g c =
