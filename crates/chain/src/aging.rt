@@ -14,7 +14,7 @@ fn aged(age: u8) -> u8
 }
 
 // The age of one buffer.
-pub fn age_of(ages: Ages, buffer: u32) -> u8
+pub(crate) fn age_of(ages: Ages, buffer: u32) -> u8
     ensures { λ r. ⌜ r ≡ ageOf ages buffer ⌝ }
 {
     match buffer {
@@ -27,7 +27,7 @@ pub fn age_of(ages: Ages, buffer: u32) -> u8
 }
 
 // The ages once a buffer is shown: 1 for that one, and one more for the others.
-pub fn ages_shown(ages: Ages, shown: u32) -> Ages
+pub(crate) fn ages_shown(ages: Ages, shown: u32) -> Ages
     requires { ⌜ shown < 4 ⌝ }
     ensures { λ r. ⌜ ((b : ℕ) → ageOf r b ≡ cond (eqb b shown) 1 (older (ageOf ages b))) ⌝ }
 {
@@ -44,7 +44,7 @@ pub fn ages_shown(ages: Ages, shown: u32) -> Ages
 }
 
 // The ages once a buffer is forgotten.
-pub fn ages_without(ages: Ages, forgotten: u32) -> Ages
+pub(crate) fn ages_without(ages: Ages, forgotten: u32) -> Ages
     requires { ⌜ forgotten < 4 ⌝ }
     ensures { λ r. ⌜ ((b : ℕ) → ageOf r b ≡ cond (eqb b forgotten) 0 (ageOf ages b)) ⌝ }
 {

@@ -38,7 +38,7 @@ fn pixel_in<P: Pixel>(memory: &[P], state: &State, buffer: u32, x: u32, y: u32) 
 }
 
 // The pixel of the back at x, y. The memory comes for writing and stays as it was.
-pub fn back_in<P: Pixel>(memory: &mut [P], state: &State, x: u32, y: u32) -> Option<P>
+pub(crate) fn back_in<P: Pixel>(memory: &mut [P], state: &State, x: u32, y: u32) -> Option<P>
     ensures gives { λ r. ⌜ r ≡ backPixel (told (now (state .entry)) (now (memory .entry))) x y ⌝ }
     ensures same { λ _. ⌜ now (memory .exit) ≡ now (memory .entry) ⌝ }
 {
@@ -46,7 +46,7 @@ pub fn back_in<P: Pixel>(memory: &mut [P], state: &State, x: u32, y: u32) -> Opt
 }
 
 // The pixel of the front at x, y, if there is a front.
-pub fn front_in<P: Pixel>(memory: &mut [P], state: &State, x: u32, y: u32) -> Option<P>
+pub(crate) fn front_in<P: Pixel>(memory: &mut [P], state: &State, x: u32, y: u32) -> Option<P>
     ensures gives { λ r. ⌜ r ≡ frontPixel (told (now (state .entry)) (now (memory .entry))) x y ⌝ }
     ensures same { λ _. ⌜ now (memory .exit) ≡ now (memory .entry) ⌝ }
 {
@@ -57,7 +57,7 @@ pub fn front_in<P: Pixel>(memory: &mut [P], state: &State, x: u32, y: u32) -> Op
 }
 
 // Writes one pixel of the back, and counts it.
-pub fn write_in<P: Pixel>(memory: &mut [P], state: &mut State, x: u32, y: u32, p: P) -> bool
+pub(crate) fn write_in<P: Pixel>(memory: &mut [P], state: &mut State, x: u32, y: u32, p: P) -> bool
     ensures puts { λ r. ⌜ Puts (told (now (state .entry)) (now (memory .entry))) x y p r (told (now (state .exit)) (now (memory .exit))) ⌝ }
     ensures stored { λ r. ⌜ now (memory .exit) ≡ cond r (set (now (memory .entry)) (place (now (state .entry) .layout) (now (state .entry) .width) (now (state .entry) .height) (now (state .entry) .back) x y) p) (now (memory .entry)) ⌝ }
 {

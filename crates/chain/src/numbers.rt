@@ -56,7 +56,14 @@ fn fits(len: usize, least: u32, width: u32, height: u32, count: u32) -> bool
 
 impl State {
     // A new chain's: where the numbers do not fit, one buffer with both sides 0.
-    pub fn new(layout: Layout, len: usize, least: u32, width: u32, height: u32, count: u32) -> State
+    pub(crate) fn new(
+        layout: Layout,
+        len: usize,
+        least: u32,
+        width: u32,
+        height: u32,
+        count: u32,
+    ) -> State
         ensures layout { λ r. ⌜ r .layout ≡ layout ⌝ }
         ensures sides { λ r. ⌜ (r .width ≡ cond (fitting least width height count len) width 0) × (r .height ≡ cond (fitting least width height count len) height 0) × (r .count ≡ cond (fitting least width height count len) count 1) ⌝ }
         ensures rest { λ r. ⌜ (r .back ≡ 0) × (r .front ≡ None) × (r .ages ≡ unaged) × (r .writes ≡ 0) ⌝ }
@@ -69,21 +76,21 @@ impl State {
     }
 
     // The pixels of one buffer.
-    pub fn size(&self) -> usize
+    pub(crate) fn size(&self) -> usize
         ensures { λ r. ⌜ r ≡ now (self .entry) .width * now (self .entry) .height ⌝ }
     {
         (self.width * self.height) as usize
     }
 
     // Has a memory of `len` pixels the length that the buffers need?
-    pub fn is_exact(&self, len: usize) -> bool
+    pub(crate) fn is_exact(&self, len: usize) -> bool
         ensures { λ r. ⌜ r ≡ eqb len (now (self .entry) .count * (now (self .entry) .width * now (self .entry) .height)) ⌝ }
     {
         len == self.count as usize * self.size()
     }
 
     // Where a pixel lies in its buffer, in a memory of `len` pixels; nowhere off the display.
-    pub fn spot(&self, len: usize, x: u32, y: u32) -> Option<usize>
+    pub(crate) fn spot(&self, len: usize, x: u32, y: u32) -> Option<usize>
         ensures below { λ r. ⌜ BySome r (Unit {0}) (λ at. at < now (self .entry) .width * now (self .entry) .height) ⌝ }
         ensures found { λ r. ⌜ r ≡ cond (eqb len (now (self .entry) .count * (now (self .entry) .width * now (self .entry) .height)) && inside (now (self .entry) .width) (now (self .entry) .height) x y) (Some (spot (now (self .entry) .layout) (now (self .entry) .width) (now (self .entry) .height) x y)) None ⌝ }
     {
@@ -95,7 +102,7 @@ impl State {
     }
 
     // Shows the back and picks the next one, which is forgotten if that is asked and it is not what is shown.
-    pub fn turn(&mut self, pick: u32, forget: bool)
+    pub(crate) fn turn(&mut self, pick: u32, forget: bool)
         ensures fixed { λ _. ⌜ (now (self .exit) .layout ≡ now (self .entry) .layout) × (now (self .exit) .width ≡ now (self .entry) .width) × (now (self .exit) .height ≡ now (self .entry) .height) × (now (self .exit) .count ≡ now (self .entry) .count) × (now (self .exit) .writes ≡ now (self .entry) .writes) ⌝ }
         ensures front { λ _. ⌜ now (self .exit) .front ≡ Some (now (self .entry) .back) ⌝ }
         ensures back { λ _. ⌜ now (self .exit) .back ≡ pick % now (self .entry) .count ⌝ }

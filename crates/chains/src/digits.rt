@@ -3,14 +3,14 @@ ghost use Rattle.chains.specs.Digits.{digit, following};
 use crate::picks::Picks;
 
 impl Picks {
-    pub fn new(number: u64) -> Picks
+    pub(crate) fn new(number: u64) -> Picks
         ensures { λ r. ⌜ (r .number ≡ number) × (r .at ≡ 0) ⌝ }
     {
         Picks { number, at: 0 }
     }
 
     // The next digit.
-    pub fn take(&mut self) -> u32
+    pub(crate) fn take(&mut self) -> u32
         ensures gives { λ r. ⌜ r ≡ digit (now (self .entry) .number) (now (self .entry) .at) ⌝ }
         ensures next { λ _. ⌜ (now (self .exit) .number ≡ now (self .entry) .number) × (now (self .exit) .at ≡ following (now (self .entry) .at) 16) ⌝ }
     {

@@ -23,7 +23,15 @@ impl<P: Pixel, S: Shelf<P>, C: Chain<P>> Panel<P, S, C> {
             return Err(r);
         }
         let display = self.display;
-        self.scene.place(&display, Pane { surface: found.number, x, y }, found.whole);
+        self.scene.place(
+            &display,
+            Pane {
+                surface: found.number,
+                x,
+                y,
+            },
+            found.whole,
+        );
         Ok(())
     }
 
@@ -35,7 +43,15 @@ impl<P: Pixel, S: Shelf<P>, C: Chain<P>> Panel<P, S, C> {
             return Err(r);
         }
         let display = self.display;
-        self.scene.move_to(&display, Pane { surface: found.number, x, y }, found.whole);
+        self.scene.move_to(
+            &display,
+            Pane {
+                surface: found.number,
+                x,
+                y,
+            },
+            found.whole,
+        );
         Ok(())
     }
 

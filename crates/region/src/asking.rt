@@ -90,12 +90,20 @@ impl Region {
         some_holds(self.boxes(), x, y)
     }
 
+    // Adds up the pixels of its boxes.
+    fn count_pixels(&self) -> u32
+        ensures sum { λ r. ⌜ r ≡ areaOf (listOf (now (self .entry))) ⌝ }
+        ensures counts { λ r. ⌜ Counts (listOf (now (self .entry))) ⌝ }
+    {
+        total(self.boxes())
+    }
+
     // The number of its pixels.
     pub fn area(&self) -> u32
         ensures sum { λ r. ⌜ r ≡ areaOf (listOf (now (self .entry))) ⌝ }
         ensures counts { λ r. ⌜ Counts (listOf (now (self .entry))) ⌝ }
     {
-        total(self.boxes())
+        self.count_pixels()
     }
 
     // The smallest box over it; (0, 0, 0, 0) for the empty region.
@@ -106,6 +114,16 @@ impl Region {
         covering(Rect::NONE, self.boxes())
     }
 
+    // Compares the lists of two regions.
+    fn compare(&self, other: &Region) -> bool
+        ensures lists { λ r. ⌜ Decides r (listOf (now (self .entry)) ≡ listOf (now (other .entry))) ⌝ }
+        ensures sets { λ r. ⌜ Decides r (Same (hasPixel (listOf (now (self .entry)))) (hasPixel (listOf (now (other .entry))))) ⌝ }
+        ensures one_list { λ _. ⌜ One-list ⌝ }
+        ensures every_set { λ _. ⌜ Every-set ⌝ }
+    {
+        equal(self.boxes(), other.boxes())
+    }
+
     // Whether two regions are the same set of pixels, and so the same list.
     pub fn same(&self, other: &Region) -> bool
         ensures lists { λ r. ⌜ Decides r (listOf (now (self .entry)) ≡ listOf (now (other .entry))) ⌝ }
@@ -113,6 +131,6 @@ impl Region {
         ensures one_list { λ _. ⌜ One-list ⌝ }
         ensures every_set { λ _. ⌜ Every-set ⌝ }
     {
-        equal(self.boxes(), other.boxes())
+        self.compare(other)
     }
 }

@@ -52,8 +52,8 @@ impl Display {
         }
     }
 
-    // The common box of a box and the display, or nothing where no pixel is common.
-    pub fn clip(&self, b: SignedRect) -> Option<Rect>
+    // The box with its edges held, if it covers a pixel.
+    fn cut(&self, b: SignedRect) -> Option<Rect>
         ensures value { λ r. ⌜ r ≡ clipped (now (self .entry) .width) (now (self .entry) .height) b ⌝ }
         ensures pixels { λ r. ⌜ Cases r ((x y : ℕ) → common (now (self .entry) .width) (now (self .entry) .height) b x y ≡ false)
             (λ c. Same (inside c) (common (now (self .entry) .width) (now (self .entry) .height) b)) ⌝ }
@@ -63,6 +63,15 @@ impl Display {
             return Some(c);
         }
         None
+    }
+
+    // The common box of a box and the display, or nothing where no pixel is common.
+    pub fn clip(&self, b: SignedRect) -> Option<Rect>
+        ensures value { λ r. ⌜ r ≡ clipped (now (self .entry) .width) (now (self .entry) .height) b ⌝ }
+        ensures pixels { λ r. ⌜ Cases r ((x y : ℕ) → common (now (self .entry) .width) (now (self .entry) .height) b x y ≡ false)
+            (λ c. Same (inside c) (common (now (self .entry) .width) (now (self .entry) .height) b)) ⌝ }
+    {
+        self.cut(b)
     }
 
     // The region of the pixels that a box and the display have in common.

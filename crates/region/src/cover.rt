@@ -4,14 +4,14 @@ ghost use Rattle.region_laws.specs.Joined.{widen as widenBox, coverFrom};
 use region_laws::Rect;
 
 // Whether a box covers a pixel.
-pub fn is_full(b: Rect) -> bool
+pub(crate) fn is_full(b: Rect) -> bool
     ensures { λ r. ⌜ r ≡ full b ⌝ }
 {
     b.left < b.right && b.top < b.bottom
 }
 
 // The smallest box over `c`, unless that covers nothing, and `b`.
-pub fn widen(c: Rect, b: Rect) -> Rect
+pub(crate) fn widen(c: Rect, b: Rect) -> Rect
     ensures { λ r. ⌜ r ≡ widenBox c b ⌝ }
 {
     if !is_full(c) {
@@ -26,7 +26,7 @@ pub fn widen(c: Rect, b: Rect) -> Rect
 }
 
 // The smallest box over `c` and a list.
-pub fn covering(c: Rect, bs: &[Rect]) -> Rect
+pub(crate) fn covering(c: Rect, bs: &[Rect]) -> Rect
     ensures { λ r. ⌜ r ≡ coverFrom c (now (bs .entry)) ⌝ }
 {
     let mut all = c;

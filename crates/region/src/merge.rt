@@ -26,7 +26,7 @@ fn takes_first(xs: &[Rect], i: usize, ys: &[Rect], j: usize) -> bool
 
 impl Strip {
     // A row with no span.
-    pub fn new() -> Strip
+    pub(crate) fn new() -> Strip
         ensures { λ s. ⌜ stripOf s ≡ [] ⌝ }
     {
         Strip {
@@ -36,7 +36,7 @@ impl Strip {
     }
 
     // One more span, which starts at or after the start of the last: it lengthens the last where the two touch.
-    pub fn add(&mut self, left: u32, right: u32)
+    pub(crate) fn add(&mut self, left: u32, right: u32)
         requires { ⌜ now self .count < 64 ⌝ }
         ensures row { λ _. ⌜ stripOf (now (self .exit)) ≡ extend (stripOf (now (self .entry))) left right ⌝ }
         ensures few { λ _. ⌜ now (self .exit) .count ≤ now (self .entry) .count + 1 ⌝ }
@@ -63,7 +63,7 @@ impl Strip {
     }
 
     // Makes it the union of two rows.
-    pub fn merge(&mut self, xs: &[Rect], ys: &[Rect])
+    pub(crate) fn merge(&mut self, xs: &[Rect], ys: &[Rect])
         requires few { ⌜ length (now xs) ≤ 32 ⌝ ∗ ⌜ length (now ys) ≤ 32 ⌝ }
         requires first { ⌜ Ok false 0 (spans (now xs)) ⌝ }
         requires second { ⌜ Ok false 0 (spans (now ys)) ⌝ }

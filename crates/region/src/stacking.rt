@@ -41,7 +41,7 @@ fn lower(bs: &mut [Rect], bottom: u32)
 
 impl Pile {
     // No band yet.
-    pub fn new() -> Pile
+    pub(crate) fn new() -> Pile
         ensures list { λ p. ⌜ pileOf p ≡ [] ⌝ }
         ensures start { λ p. ⌜ p .start ≡ 0 ⌝ }
     {
@@ -53,7 +53,7 @@ impl Pile {
     }
 
     // Whether the last band goes on with `row` at `top`.
-    pub fn goes_on(&self, row: &Strip, top: u32) -> bool
+    pub(crate) fn goes_on(&self, row: &Strip, top: u32) -> bool
         ensures { λ r. ⌜ r ≡ goesOn (pileOf (now (self .entry))) (now (self .entry) .start) (stripOf (now (row .entry))) top ⌝ }
     {
         if self.start == self.count {
@@ -69,7 +69,7 @@ impl Pile {
     }
 
     // Lengthens the last band.
-    pub fn lengthen(&mut self, bottom: u32)
+    pub(crate) fn lengthen(&mut self, bottom: u32)
         ensures list { λ _. ⌜ pileOf (now (self .exit)) ≡ take (now (self .entry) .start) (pileOf (now (self .entry))) ++ lowered bottom (drop (now (self .entry) .start) (pileOf (now (self .entry)))) ⌝ }
         ensures start { λ _. ⌜ now (self .exit) .start ≡ now (self .entry) .start ⌝ }
     {
@@ -79,7 +79,7 @@ impl Pile {
     }
 
     // Puts one box behind the others; those stand as they were.
-    pub fn push(&mut self, b: Rect)
+    pub(crate) fn push(&mut self, b: Rect)
         requires { ⌜ now self .count < 32 ⌝ }
         ensures list { λ _. ⌜ pileOf (now (self .exit)) ≡ pileOf (now (self .entry)) ++ b ∷ [] ⌝ }
         ensures more { λ _. ⌜ now (self .exit) .count ≡ now (self .entry) .count + 1 ⌝ }
@@ -90,7 +90,7 @@ impl Pile {
     }
 
     // Puts a new band under the others; those stand as they were.
-    pub fn write_band(&mut self, row: &Strip, top: u32, bottom: u32)
+    pub(crate) fn write_band(&mut self, row: &Strip, top: u32, bottom: u32)
         requires { ⌜ now self .count + now row .count ≤ 32 ⌝ }
         ensures list { λ _. ⌜ pileOf (now (self .exit)) ≡ pileOf (now (self .entry)) ++ rowBoxes top bottom (stripOf (now (row .entry))) ⌝ }
         ensures start { λ _. ⌜ now (self .exit) .start ≡ now (self .entry) .count ⌝ }
@@ -109,7 +109,7 @@ impl Pile {
     }
 
     // One more row, from `top` down to `bottom`. Where it does not fit, all stands as it was.
-    pub fn append(&mut self, row: &Strip, top: u32, bottom: u32) -> bool
+    pub(crate) fn append(&mut self, row: &Strip, top: u32, bottom: u32) -> bool
         ensures fits { λ r. ⌜ r ≡ leb (length (stacked (pileOf (now (self .entry))) (now (self .entry) .start) (stripOf (now (row .entry))) top bottom)) 32 ⌝ }
         ensures list { λ r. ⌜ pileOf (now (self .exit)) ≡ cond r (stacked (pileOf (now (self .entry))) (now (self .entry) .start) (stripOf (now (row .entry))) top bottom) (pileOf (now (self .entry))) ⌝ }
         ensures start { λ r. ⌜ now (self .exit) .start ≡ cond r (startOfLast (pileOf (now (self .entry))) (now (self .entry) .start) (stripOf (now (row .entry))) top) (now (self .entry) .start) ⌝ }

@@ -16,7 +16,7 @@ use crate::strip::Strip;
 use region_laws::Rect;
 
 // Where the boxes whose bottom is past y begin; those before `from` are known to lie above y.
-pub fn first_past(bs: &[Rect], from: usize, y: u32) -> usize
+pub(crate) fn first_past(bs: &[Rect], from: usize, y: u32) -> usize
     requires within { ⌜ from ≤ length (now bs) ⌝ }
     requires above { ⌜ ((m : ℕ) → m < from → getD (now bs) m noBox .bottom ≤ y) ⌝ }
     ensures within { λ r. ⌜ r ≤ length (now (bs .entry)) ⌝ }
@@ -32,7 +32,7 @@ pub fn first_past(bs: &[Rect], from: usize, y: u32) -> usize
 }
 
 // Where the boxes from `from` on whose top is past y begin.
-pub fn row_end(bs: &[Rect], from: usize, y: u32) -> usize
+pub(crate) fn row_end(bs: &[Rect], from: usize, y: u32) -> usize
     requires { ⌜ from ≤ length (now bs) ⌝ }
     ensures order { λ r. ⌜ from ≤ r ⌝ }
     ensures within { λ r. ⌜ r ≤ length (now (bs .entry)) ⌝ }
@@ -49,7 +49,7 @@ pub fn row_end(bs: &[Rect], from: usize, y: u32) -> usize
 
 // An edge past y and not past `end`, such that no box of `bs` begins or ends between y and it. The boxes before `i` lie
 // above y, and that at `i` does not.
-pub fn next_edge(bs: &[Rect], i: usize, y: u32, end: u32) -> u32
+pub(crate) fn next_edge(bs: &[Rect], i: usize, y: u32, end: u32) -> u32
     requires banded { ⌜ allBanded (now bs) ≡ true ⌝ }
     requires past { ⌜ y < end ⌝ }
     requires within { ⌜ i ≤ length (now bs) ⌝ }
@@ -70,7 +70,7 @@ pub fn next_edge(bs: &[Rect], i: usize, y: u32, end: u32) -> u32
 }
 
 // The boxes of `bs` that have row y, and the next edge below it; the boxes before `from` are known to lie above y.
-pub fn slab_at(bs: &[Rect], from: usize, y: u32, end: u32) -> Slab
+pub(crate) fn slab_at(bs: &[Rect], from: usize, y: u32, end: u32) -> Slab
     requires banded { ⌜ allBanded (now bs) ≡ true ⌝ }
     requires past { ⌜ y < end ⌝ }
     requires within { ⌜ from ≤ length (now bs) ⌝ }
@@ -94,7 +94,7 @@ pub fn slab_at(bs: &[Rect], from: usize, y: u32, end: u32) -> Slab
 }
 
 // How far down a banded list goes.
-pub fn lowest(bs: &[Rect]) -> u32
+pub(crate) fn lowest(bs: &[Rect]) -> u32
     requires { ⌜ allBanded (now bs) ≡ true ⌝ }
     ensures { λ r. ⌜ r ≡ high (now (bs .entry)) ⌝ }
 {
@@ -104,7 +104,7 @@ pub fn lowest(bs: &[Rect]) -> u32
 
 // The union of two banded lists, or none where it has more than 32 boxes. It goes down strip by strip, from edge to
 // edge: in each it merges the spans of both lists.
-pub fn unite(xs: &[Rect], ys: &[Rect]) -> Option<Pile>
+pub(crate) fn unite(xs: &[Rect], ys: &[Rect]) -> Option<Pile>
     requires few { ⌜ length (now xs) ≤ 32 ⌝ ∗ ⌜ length (now ys) ≤ 32 ⌝ }
     requires first { ⌜ allBanded (now xs) ≡ true ⌝ }
     requires second { ⌜ allBanded (now ys) ≡ true ⌝ }

@@ -4,7 +4,7 @@ use mathlib.Core.Bool.{true}
 use Rattle.region_laws.specs.Bands.{covers}
 use Rattle.region.specs.Lists.{listOf}
 use Rattle.region_laws.proofs.Laws.{one-list, every-set}
-use Rattle.region.proofs.region.Region.same.Needs as need
+use Rattle.region.proofs.region.Region.compare.Needs as need
 
 pub returns : need.returns
 returns c =

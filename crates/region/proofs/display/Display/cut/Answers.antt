@@ -1,6 +1,6 @@
 use mathlib.Core.Path.{_≡_, sym, _∙_}
 use Rattle.region.proofs.Edges.{clip-some, clip-none}
-use Rattle.region.proofs.display.Display.clip.Needs as need
+use Rattle.region.proofs.display.Display.cut.Needs as need
 
 pub returns-then-is-full : need.returns-then-is-full
 returns-then-is-full c =
