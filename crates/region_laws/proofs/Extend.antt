@@ -2,7 +2,7 @@
 use Rattle.std.proofs.Common.{◌≡◌, ℕ, zero, suc, ◌+◌, ◌-◌, ◌*◌, ◌<◌, ◌≤◌, max, Bool, true, false, cond, not, ◌&&◌, ◌||◌, eqb, ltb, leb, ◌≢◌, ◌⊎◌, List, [], ◌∷◌, ◌++◌, length, get_or, take, drop, set, sym, refl, ap, ◌∙◌, subst, inl, inr, append_assoc, arith}
 use Rattle.std.proofs.lemmas.Bool.Decides.{nat_tests}
 use Rattle.std.proofs.lemmas.Bool.{cases_lt, cond-true, cond-false, lt-ltb, le-ltb, cond_both, ltb-true, ltb-false, true≢false}
-use Rattle.std.proofs.lemmas.List.{take_more, take_more_set, take_set}
+use Rattle.std.proofs.lemmas.List.{take_more, take_more_set, take-set}
 use Rattle.region_laws.specs.Runs.{Run, run, at, Ok, Apart}
 use Rattle.region_laws.specs.Bands.{Row}
 use Rattle.region_laws.specs.Spans.{spans, extend}

@@ -7,7 +7,7 @@ pub returns : goal.returns
 returns c =
     let s = c.args.self in
     let d = c.args.below in
-    let lays = c.lay-pixel.ensures in
+    let lays = c.lay_pixel.ensures in
     let clean = laid_clean s d (omega arith) (omega arith) in
     record {
       lays = lays;
