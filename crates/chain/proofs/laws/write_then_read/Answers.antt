@@ -9,6 +9,6 @@ returns g c =
     let s = g.C.Chain.tells a.chain.now in
     let e = write_is_function s _ a.x a.y a.p _ c.write.ensures in
     record {
-      read = c.back-pixel.ensures.gives ∙ ap (λ (t : Screens _). back_pixel t a.x a.y) e ∙ read_written s a.x a.y a.p (g.C.Chain.sound a.chain.now);
-      after = c.back-pixel.ensures.same ∙ e;
+      read = c.back_pixel.ensures.gives ∙ ap (λ (t : Screens _). back_pixel t a.x a.y) e ∙ read_written s a.x a.y a.p (g.C.Chain.sound a.chain.now);
+      after = c.back_pixel.ensures.same ∙ e;
     }

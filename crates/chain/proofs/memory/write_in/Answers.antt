@@ -7,9 +7,9 @@ pub returns : goal.returns
 returns g c =
     let s = c.args.state.now in
     let m = c.args.memory.now in
-    let n = c.put-among.new.memory in
+    let n = c.put_among.new.memory in
     let f = found s m c.args.x c.args.y c.in-Some.at c.in-Some.ensures.found in
-    let d = stored_at s m n c.args.x c.args.y c.size-size.result c.in-Some.at c.args.p c.size-size.ensures f c.put-among.ensures in
+    let d = stored_at s m n c.args.x c.args.y c.size-size.result c.in-Some.at c.args.p c.size-size.ensures f c.put_among.ensures in
     let k = same_exact s m n _ c.args.p d in
     let q = f.column in let w = f.row in let o = f.long in
     record {

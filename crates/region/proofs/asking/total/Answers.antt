@@ -3,20 +3,20 @@ use Rattle.region_laws.proofs.Counts.{area_left, area_done, area_bound}
 use Rattle.region_laws.proofs.Pairs.{banded_sound}
 use Rattle.region.proofs.asking.total.Goals as goal
 
-pub overflow-sub-wide : goal.overflow-sub-wide
-overflow-sub-wide c = let s = (banded_sound c.args.bs.now c.loop-i.i c.requires (omega arith)).wide in omega arith
+pub overflow_sub-wide : goal.overflow_sub-wide
+overflow_sub-wide c = let s = (banded_sound c.args.bs.now c.loop-i.i c.requires (omega arith)).wide in omega arith
 
-pub overflow-sub-high : goal.overflow-sub-high
-overflow-sub-high c = let s = (banded_sound c.args.bs.now c.loop-i.i c.requires (omega arith)).high in omega arith
+pub overflow_sub-high : goal.overflow_sub-high
+overflow_sub-high c = let s = (banded_sound c.args.bs.now c.loop-i.i c.requires (omega arith)).high in omega arith
 
-pub overflow-mul-n : goal.overflow-mul-n
-overflow-mul-n c =
+pub overflow_mul-n : goal.overflow_mul-n
+overflow_mul-n c =
     let e = area_left c.args.bs.now c.loop-i.i (omega arith) in
     let b = area_bound c.args.bs.now c.requires in
     omega arith
 
-pub overflow-add-n : goal.overflow-add-n
-overflow-add-n c =
+pub overflow_add-n : goal.overflow_add-n
+overflow_add-n c =
     let e = area_left c.args.bs.now c.loop-i.i (omega arith) in
     let b = area_bound c.args.bs.now c.requires in
     omega arith

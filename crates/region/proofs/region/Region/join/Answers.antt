@@ -51,5 +51,5 @@ returns-in-None c =
     let a = c.args.self.now in
     let b = c.args.other.now in
     let s : 32 < length (union (list_of a) (list_of b)) = subst (λ (n : ℕ). 32 < n) (λ i. length (union (c.boxes.ensures.list i) (c.boxes-2.ensures.list i))) c.in-None.ensures in
-    let e : list_of c.stand-in.result ≡ joined (list_of a) (list_of b) = c.stand-in.ensures ∙ sym (joined_long (list_of a) (list_of b) s) in
+    let e : list_of c.stand_in.result ≡ joined (list_of a) (list_of b) = c.stand_in.ensures ∙ sym (joined_long (list_of a) (list_of b) s) in
     record { list = e; joins = joins_at (list_of a) (list_of b) _ a.banded b.banded e; unites = unites (list_of a) (list_of b) a.banded b.banded; laws = join_laws (list_of a) (list_of b) a.banded (few a) }
