@@ -7,8 +7,8 @@ pub returns : goal.returns
 returns c =
     let v = c.args.v.value in
     let i = in_range_lem v c.args.v.low c.args.v.high in
-    let e : c.character-in.result ∷ c.character-in-2.result ∷ c.character-in-3.result ∷ c.character-in-4.result ∷ [] ≡ row v
-    = cc (c.character-in.ensures.shows, c.character-in-2.ensures.shows, c.character-in-3.ensures.shows, c.character-in-4.ensures.shows) in
+    let e : c.character_in.result ∷ c.character_in-2.result ∷ c.character_in-3.result ∷ c.character_in-4.result ∷ [] ≡ row v
+    = cc (c.character_in.ensures.shows, c.character_in-2.ensures.shows, c.character_in-3.ensures.shows, c.character_in-4.ensures.shows) in
     record {
       named = e;
       back = ap read e ∙ (good v i).back;

@@ -18,7 +18,7 @@ returns-in-Some g c =
     let k1 : eqb c.args.k 0 ≡ true = eq-eqb _ _ (omega arith) in
     let w1 : ltb 0 c.args.self.now.width ≡ true = lt-ltb _ _ (omega arith) in
     let h1 : ltb 0 c.args.self.now.height ≡ true = lt-ltb _ _ (open_both _ _ s.both (λ z. omega arith)) in
-    let e : c.damage-to-damage.result ≡ damage equal s next = c.damage-to-damage.ensures in
+    let e : c.damage_to-damage.result ≡ damage equal s next = c.damage_to-damage.ensures in
     record {
       answered = record {
         taken = simp (k1, w1, h1) c.in-Some.ensures.taken;

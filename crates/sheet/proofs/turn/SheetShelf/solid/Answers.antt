@@ -7,11 +7,11 @@ use Rattle.sheet.specs.Sheets.{shown, told}
 use Rattle.sheet.specs.Owed.{told_sound_lem}
 use Rattle.sheet.proofs.turn.SheetShelf.solid.Goals as goal
 
-pub returns-then-all-solid : goal.returns-then-all-solid
-returns-then-all-solid g c =
+pub returns-then-all_solid : goal.returns-then-all_solid
+returns-then-all_solid g c =
     let k0 : eqb c.args.k 0 ≡ true = eq-eqb _ _ (omega arith) in
     let s = c.args.self.now in
     let hard = g.P.Pixel.solid in
-    let all : each hard (shown s) ≡ true = sym (ap (each hard) c.shown-page.ensures.is) ∙ sym c.if-all-solid.ensures in
+    let all : each hard (shown s) ≡ true = sym (ap (each hard) c.shown_page.ensures.is) ∙ sym c.if-all_solid.ensures in
     let t : Some (box 0 0 s.width s.height) ≡ (told hard s).solid c.args.k = simp (k0, all) in
     record { told = t; hides = hides_told hard (told hard s) c.args.k _ (told_sound_lem hard s) t }
