@@ -10,8 +10,8 @@ loop-i-init g c = list_opens g.P.Pixel.lay (g.S.Shelf.tells g.P.Pixel.solid) g.C
 pub loop-i-preserved : goal.loop-i-preserved
 loop-i-preserved g c =
     list_goes g.P.Pixel.lay (g.S.Shelf.tells g.P.Pixel.solid) g.C.Chain.tells g.C.Chain.sound c.args.sights.now c.args.self.now
-    c.loop-i.self c.paint-box-part.new.self c.boxes-boxes.result.now c.loop-i.i c.loop-i.touched c.loop-i.laid c.saturating-add-touched.result c.saturating-add-laid.result c.paint-box-part.result
-    (omega arith) c.loop-i.invariant c.paint-box-part.ensures c.saturating-add-touched.ensures c.saturating-add-laid.ensures
+    c.loop-i.self c.paint_box-part.new.self c.boxes-boxes.result.now c.loop-i.i c.loop-i.touched c.loop-i.laid c.saturating_add-touched.result c.saturating_add-laid.result c.paint_box-part.result
+    (omega arith) c.loop-i.invariant c.paint_box-part.ensures c.saturating_add-touched.ensures c.saturating_add-laid.ensures
 
 pub returns : goal.returns
 returns g c =

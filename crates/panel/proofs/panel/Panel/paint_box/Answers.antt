@@ -8,8 +8,8 @@ loop-y-init g c = (box_opens g.P.Pixel.lay (g.S.Shelf.tells g.P.Pixel.solid) g.C
 pub loop-y-preserved : goal.loop-y-preserved
 loop-y-preserved g c = (
   box_goes g.P.Pixel.lay (g.S.Shelf.tells g.P.Pixel.solid) g.C.Chain.tells g.C.Chain.sound c.args.sights.now c.args.self.now
-      c.loop-y.self c.paint-row-row.new.self c.args.b.left c.args.b.top c.args.b.right c.loop-y.y c.loop-y.touched c.loop-y.laid c.saturating-add-touched.result c.saturating-add-laid.result c.paint-row-row.result
-      (omega arith) c.loop-y.invariant.0 c.paint-row-row.ensures c.saturating-add-touched.ensures c.saturating-add-laid.ensures,
+      c.loop-y.self c.paint_row-row.new.self c.args.b.left c.args.b.top c.args.b.right c.loop-y.y c.loop-y.touched c.loop-y.laid c.saturating_add-touched.result c.saturating_add-laid.result c.paint_row-row.result
+      (omega arith) c.loop-y.invariant.0 c.paint_row-row.ensures c.saturating_add-touched.ensures c.saturating_add-laid.ensures,
   omega arith,
 )
 

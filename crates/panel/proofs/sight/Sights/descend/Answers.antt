@@ -18,7 +18,7 @@ loop-i-preserved-else-covers c =
 pub loop-i-preserved : goal.loop-i-preserved
 loop-i-preserved c =
     first_past c.args.self.now.all c.args.self.now.count (omega arith) c.args.x c.args.y c.loop-i.i c.loop-i.laid c.spot.result
-    (omega arith) (omega arith) c.spot.ensures c.in-default.is c.loop-i.invariant
+    (omega arith) (omega arith) c.spot.ensures c.in_default.is c.loop-i.invariant
 
 pub returns : goal.returns
 returns c = first_ends c.args.self.now.all c.args.self.now.count (omega arith) c.args.x c.args.y c.loop-i.laid c.loop-i.i (omega arith) (omega arith) c.loop-i.invariant

@@ -7,8 +7,8 @@ use Rattle.scene.specs.States.{state_of, stacked}
 use Rattle.scene.proofs.Turns.{turned_right, inserted_least}
 use Rattle.scene.proofs.scene.Scene.put_in.Goals as goal
 
-pub invariant-of-self : goal.invariant-of-self
-invariant-of-self c = search (rules, places)
+pub invariant_of-self : goal.invariant_of-self
+invariant_of-self c = search (rules, places)
 
 pub returns : goal.returns
 returns c =
@@ -20,5 +20,5 @@ returns c =
     let stack : List Pane = (state_of s).stack in
     let n : length stack ≡ s.count = length-take-le s.count s.panes (omega arith) in
     let e : (state_of t).stack ≡ _ = ap (λ (v : State). v.stack) c.push.ensures.stack in
-    ap (λ (ps : List Pane). stacked ps (state_of t)) (turned_right t.panes at t.count stack p c.rotate-right.new.self (omega arith) e (omega arith) (omega arith) c.rotate-right.ensures.after ∙ inserted_least stack under at p (omega arith))
+    ap (λ (ps : List Pane). stacked ps (state_of t)) (turned_right t.panes at t.count stack p c.rotate_right.new.self (omega arith) e (omega arith) (omega arith) c.rotate_right.ensures.after ∙ inserted_least stack under at p (omega arith))
     ∙ ap (stacked (insert stack under p)) c.push.ensures.stack

@@ -5,14 +5,14 @@ use Rattle.scene.specs.States.{state_of, stacked}
 use Rattle.scene.proofs.Turns.{turned_left}
 use Rattle.scene.proofs.scene.Scene.take_out.Goals as goal
 
-pub invariant-of-self : goal.invariant-of-self
-invariant-of-self c = search (rules, places)
+pub invariant_of-self : goal.invariant_of-self
+invariant_of-self c = search (rules, places)
 
 pub returns : goal.returns
 returns c =
     let s = c.args.self.now in
     let l : c.args.i < s.count = omega (arith, length-take s.count s.panes) in
     record {
-      stack = ap (λ (ps : List Pane). stacked ps (state_of s)) (turned_left s.panes c.args.i s.count c.rotate-left.new.self (omega arith) l c.rotate-left.ensures.after);
+      stack = ap (λ (ps : List Pane). stacked ps (state_of s)) (turned_left s.panes c.args.i s.count c.rotate_left.new.self (omega arith) l c.rotate_left.ensures.after);
       room = omega arith;
     }
