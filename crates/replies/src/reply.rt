@@ -76,6 +76,7 @@ impl fmt::Display for Reply {
 pub fn write_reply(text: &mut String, reply: Reply) -> Result<(), AllocError>
     ensures { string_bytes text.new ≡ (if is_ok result then string_bytes text.old ++ reply_text reply else string_bytes text.old) }
 {
-    let line = format!(in text.allocator(); "{reply}")?;
+    let heap = *text.allocator();
+    let line = format!(in heap; "{reply}")?;
     text.push_str(line.as_str())
 }

@@ -34,7 +34,8 @@ fn digits(heap: Global, pixels: &[u8]) -> Result<String, AllocError>
 pub fn write_row(text: &mut String, pixels: &[u8]) -> Result<(), AllocError>
     ensures { string_bytes text.new ≡ (if is_ok result then string_bytes text.old ++ row_text pixels.now else string_bytes text.old) }
 {
-    let mut row = digits(*text.allocator(), pixels)?;
+    let heap = *text.allocator();
+    let mut row = digits(heap, pixels)?;
     row.push('\n')?;
     text.push_str(row.as_str())
 }

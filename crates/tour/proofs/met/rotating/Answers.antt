@@ -5,5 +5,5 @@ use Rattle.tour.proofs.met.rotating.Goals as goal
 
 pub returns : goal.returns
 returns c =
-    met_from (λ s k. rotations k s) _ _ c.meet-rotating.new.ages 5 c.meet-rotating.auto.ages
-    (begin_is_function _ _ _ _ _ _ _ c.new-chain.ensures.begins) c.meet-rotating.ensures.met
+    met_from (λ s k. rotations k s) _ _ c.meet_rotating.new.ages 5 c.meet_rotating.auto.ages
+    (begin_is_function _ _ _ _ _ _ _ c.new-chain.ensures.begins) c.meet_rotating.ensures.met
