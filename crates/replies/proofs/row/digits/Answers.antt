@@ -18,8 +18,8 @@ done text ps i h e = sym (append-nil text) ∙ ap (λ t. text ++ t) (sym (at_dro
 pub loop-p-preserved : goal.loop-p-preserved
 loop-p-preserved c =
     turn _ _ _ c.args.pixels.now _ c.loop-p.p-index c.digit.result c.digit-in-loop-p.result (omega arith) c.loop-p.invariant c.digit.ensures.value c.digit-in-loop-p.ensures.value
-    (c.in-ok-push.ensures.bytes ∙ ap (λ t. string_bytes c.loop-p.text ++ t) (c.push.ensures.ascii c.digit.ensures.ascii))
-    (c.in-ok-push-2.ensures.bytes ∙ ap (λ t. string_bytes c.push.new.self ++ t) (c.push-in-loop-p.ensures.ascii c.digit-in-loop-p.ensures.ascii))
+    (c.in_ok-push.ensures.bytes ∙ ap (λ t. string_bytes c.loop-p.text ++ t) (c.push.ensures.ascii c.digit.ensures.ascii))
+    (c.in_ok-push-2.ensures.bytes ∙ ap (λ t. string_bytes c.push.new.self ++ t) (c.push-in-loop-p.ensures.ascii c.digit-in-loop-p.ensures.ascii))
 
 pub returns : goal.returns
 returns c = done _ _ _ (omega arith) c.loop-p.invariant

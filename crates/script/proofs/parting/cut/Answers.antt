@@ -11,7 +11,7 @@ whole : (sep n : ℕ) (bs f : List ℕ) → n ≡ front_length sep bs → f ≡ 
 whole sep n bs f e ef h = let t : ltb n (length bs) ≡ false = grind (arith, nat_tests) in let p = parts_first sep bs in cc
 
 pub returns-then-n-text : goal.returns-then-n-text
-returns-then-n-text c = parted _ _ _ _ _ c.front-length-n.ensures.value c.split-at.ensures.front c.if-n-text.true c.split-at-then-n-text.ensures.back
+returns-then-n-text c = parted _ _ _ _ _ c.front_length-n.ensures.value c.split_at.ensures.front c.if-n-text.true c.split_at-then-n-text.ensures.back
 
 pub returns-else-n-text : goal.returns-else-n-text
-returns-else-n-text c = whole _ _ _ _ c.front-length-n.ensures.value c.split-at.ensures.front c.if-n-text.false
+returns-else-n-text c = whole _ _ _ _ c.front_length-n.ensures.value c.split_at.ensures.front c.if-n-text.false
