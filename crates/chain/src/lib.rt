@@ -1,3 +1,5 @@
+#![tactic(auto)]
+
 mod ages;
 mod aging;
 mod buffers;

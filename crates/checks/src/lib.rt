@@ -1,3 +1,5 @@
+#![tactic(auto)]
+
 // The worked examples, run on the real code, and frames compared with a full repainting.
 #[cfg(test)]
 mod chains;

@@ -1,5 +1,5 @@
 -- The cells of a figure, and the smallest box over those that changed.
-use Rattle.std.proofs.Common.{◌≡◌, ℕ, zero, suc, ◌+◌, ◌-◌, ◌*◌, ◌/◌, ◌%◌, ◌<◌, ◌≤◌, Bool, true, false, cond, ◌&&◌, ◌||◌, ltb, leb, ◌⊎◌, ℤ, Some, sym, refl, ap, ◌∙◌, ⊎_elim, mul_assoc, mul_comm, add-mul, arith}
+use Rattle.std.proofs.Common.{◌≡◌, ℕ, zero, suc, ◌+◌, ◌-◌, ◌*◌, ◌/◌, ◌%◌, ◌<◌, ◌≤◌, Bool, true, false, cond, ◌&&◌, ◌||◌, ltb, leb, ℤ, Some, sym, refl, ap, ◌∙◌, ⊎_elim, mul_assoc, mul_comm, add-mul, arith}
 use Rattle.std.proofs.lemmas.Nat.{mul-le, div-add-mod', mod_below, div_below, div-mul-add, mod-mul-add}
 use Rattle.std.proofs.lemmas.Bool.{cases_lt, cases_Bool, both_ways, lt-ltb, le-ltb, ltb-true, leb-true, le-leb, and_parts, and_from, or_cases, or_left, or_right, not_from_false, eqb-true}
 use Rattle.region_laws.specs.Boxes.{box, no_box, full, Smallest}

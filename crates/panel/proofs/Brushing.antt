@@ -1,15 +1,15 @@
 -- A panel paints one pixel, row or box more.
-use Rattle.std.proofs.Common.{◌≡◌, ℕ, ◌+◌, ◌^◌, ◌<◌, ◌≤◌, max, List, [], length, get_or, take, sym, refl, ap, ◌∙◌, subst, arith, take_all}
+use Rattle.std.proofs.Common.{◌≡◌, ℕ, ◌+◌, ◌<◌, ◌≤◌, max, List, length, get_or, take, refl, ap, ◌∙◌, subst, arith, take_all}
 use Rattle.region_laws.specs.Boxes.{box, no_box, inside}
 use Rattle.region_laws.specs.declared.rect.Rect.{Rect}
 use Rattle.surface.specs.Told.{Told}
 use Rattle.chain.specs.Screens.{Screens, Sound}
-use Rattle.reference.specs.Painting.{Painted, one_per_place, capped, BoxBrushed, ListBrushed, row_box}
+use Rattle.reference.specs.Painting.{Painted, one_per_place, capped, BoxBrushed, row_box}
 use Rattle.reference_laws.proofs.Painting.{row_begins, row_steps, row_ends, box_begins, box_steps, box_ends, list_begins, list_steps}
 use Rattle.panel.specs.declared.panel.Panel.{Panel}
 use Rattle.panel.specs.declared.sight.Sights.{Sights}
 use Rattle.panel.specs.declared.sight.Tally.{Tally}
-use Rattle.panel.specs.Sights.{sights_of, composed, stacked}
+use Rattle.panel.specs.Sights.{sights_of, composed}
 use Rattle.panel.specs.Paints.{ChainOnly, picture_by, depth_by, PaintedBox, PaintedList}
 
 abbrev pub tally : ℕ → ℕ → Tally

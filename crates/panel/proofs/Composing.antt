@@ -1,11 +1,11 @@
 -- The pixel of a place, composed from the pane that hides all below it.
-use Rattle.std.proofs.Common.{◌≡◌, ℕ, zero, suc, ◌+◌, ◌-◌, ◌<◌, ◌≤◌, Bool, true, false, cond, ◌&&◌, ◌||◌, eqb, ltb, leb, ◌⊎◌, List, [], ◌∷◌, ◌++◌, map, length, get_or, take, drop, is_some, Some, None, fold, Option, sym, refl, ap, ◌∙◌, subst, inl, inr, arith, take_all, drop-cons}
+use Rattle.std.proofs.Common.{◌≡◌, ℕ, zero, suc, ◌+◌, ◌-◌, ◌<◌, ◌≤◌, Bool, true, false, cond, eqb, ◌⊎◌, List, [], ◌∷◌, length, get_or, take, drop, Some, None, fold, Option, sym, refl, ap, ◌∙◌, inl, inr, arith, take_all}
 use Rattle.std.specs.List.{between}
 use Rattle.std.proofs.lemmas.List.{get_or-take, length-take, length-drop}
-use Rattle.std.proofs.lemmas.List.Edits.{between_none, between_more}
+use Rattle.std.proofs.lemmas.List.Edits.{between_more}
 use Rattle.std.proofs.lemmas.List.Sums.{fold_push}
 use Rattle.std.proofs.lemmas.Bool.Decides.{nat_tests}
-use Rattle.std.proofs.lemmas.Bool.{both_ways, or_cases, eqb-true, cases_lt, cond-true, cond-false}
+use Rattle.std.proofs.lemmas.Bool.{both_ways, or_cases, eqb-true, cond-true}
 use Rattle.surface.specs.Told.{Told}
 use Rattle.reference.specs.Picture.{laid_over}
 use Rattle.region_laws.specs.Boxes.{no_box}

@@ -1,9 +1,8 @@
 -- Going down the stack at a place.
-use Rattle.std.proofs.Common.{◌≡◌, ℕ, zero, suc, ◌+◌, ◌-◌, ◌<◌, ◌≤◌, Bool, true, false, cond, ◌&&◌, ◌||◌, eqb, ltb, leb, ◌⊎◌, List, [], ◌∷◌, length, get_or, take, drop, is_some, Some, None, fold, Option, sym, refl, ap, ◌∙◌, subst, inl, inr, arith, take_all}
+use Rattle.std.proofs.Common.{◌≡◌, ℕ, ◌+◌, ◌-◌, ◌<◌, ◌≤◌, Bool, true, false, cond, eqb, ◌⊎◌, List, length, get_or, take, is_some, Some, None, Option, sym, refl, ap, ◌∙◌, subst, inl, inr, arith, take_all}
 use Rattle.std.proofs.lemmas.List.{get_or-take, length-take}
 use Rattle.std.proofs.lemmas.List.Sums.{fold_more}
-use Rattle.std.proofs.lemmas.Bool.{cases_lt, or_left, or_right, eq-eqb}
-use Rattle.region_laws.specs.declared.rect.Rect.{Rect}
+use Rattle.std.proofs.lemmas.Bool.{cases_lt, or_right}
 use Rattle.panel.specs.declared.sight.Spot.{Spot}
 use Rattle.panel.specs.declared.sight.Sight.{Sight}
 use Rattle.panel.specs.Sights.{no_sight, spot_at, covered_by, meets, blocks, stacked, Descends}

@@ -1,5 +1,5 @@
 -- What each call of the panel promises keeps the law of whole runs.
-use Rattle.std.proofs.Common.{◌≡◌, ℕ, ◌+◌, ◌*◌, ◌^◌, ◌<◌, ◌≤◌, Bool, true, false, cond, not, ltb, List, [], ◌∷◌, map, length, ℤ, is_some, Some, None, Ok, Err, Option, Result, sym, refl, ap, ◌∙◌, subst, arith}
+use Rattle.std.proofs.Common.{◌≡◌, ℕ, Bool, true, false, cond, not, ltb, List, ◌∷◌, length, ℤ, is_some, Some, None, Ok, Err, Option, Result, sym, refl, ap, ◌∙◌, subst}
 use Rattle.std.proofs.lemmas.Bool.{cond-true}
 use Rattle.region_laws.specs.Boxes.{no_box}
 use Rattle.region_laws.specs.declared.rect.Rect.{Rect}
@@ -12,7 +12,6 @@ use Rattle.chain.specs.Screens as screens
 use Rattle.reference.specs.declared.pane.Pane.{Pane}
 use Rattle.reference.specs.declared.call.Call.{Call}
 use Rattle.reference.specs.declared.call.Call.TheVariants.{Place, Move, Lift, Remove, Tell, Show}
-use Rattle.reference.specs.declared.answer.Answer.{Answer}
 use Rattle.reference.specs.declared.answer.Answer.TheVariants as answers
 use Rattle.reference.specs.declared.answer.Shown.{Shown}
 use Rattle.reference.specs.declared.refusal.Refusal.{Refusal}
@@ -20,16 +19,16 @@ use Rattle.reference.specs.Stack.{pane, height_of}
 use Rattle.reference.specs.Places.{surface_box}
 use Rattle.reference.specs.Refusals.{refusal, natural, known, most, on_stack, place_refusal, move_refusal, lift_refusal, remove_refusal, tell_refusal}
 use Rattle.reference.specs.Damage.{State}
-use Rattle.reference.specs.Steps.{done, next, placing, moving_at, lifting_at, removing_at, telling_at}
+use Rattle.reference.specs.Steps.{done, placing, moving_at, lifting_at, removing_at, telling_at}
 use Rattle.reference.specs.declared.refusal.Refusal.TheVariants.{NoSurface, NotTaken}
 use Rattle.surface.specs.Damaged.{Damaged}
-use Rattle.reference.specs.History.{Event, World, plainly}
-use Rattle.reference.specs.Kept.{Kept, Sides, event}
+use Rattle.reference.specs.History.{Event, plainly}
+use Rattle.reference.specs.Kept.{Kept, event}
 use Rattle.reference_laws.proofs.Calls.{good, Quiet, quiet_keeps, refused_keeps, taken_keeps, show_keeps}
 use Rattle.scene.specs.States.{state_of}
 use Rattle.scene.specs.declared.scene.Scene.{Scene}
 use Rattle.panel.specs.declared.panel.Panel.{Panel}
-use Rattle.panel.specs.Calls.{Meaning, world_of, KeptBy, Keeps, accepted, said, said_of, Quietly, Taken, Declined, Displays}
+use Rattle.panel.specs.Calls.{Meaning, world_of, KeptBy, Keeps, accepted, said, Quietly, Taken, Declined, Displays}
 
 said_accepted : (r : Option Refusal) → said (accepted r) ≡ plainly r
 said_accepted None = refl

@@ -1,8 +1,8 @@
 -- A show paints the stated region with the whole picture.
-use Rattle.std.proofs.Common.{◌≡◌, ℕ, zero, suc, ◌+◌, ◌-◌, ◌*◌, ◌%◌, ◌^◌, ◌<◌, ◌≤◌, min, Bool, true, false, cond, ◌&&◌, eqb, List, [], ◌∷◌, map, length, take, Some, fold, sym, refl, ap, ◌∙◌, subst, mul_assoc, mul_comm, mul-le-mul_left, mul-add, arith}
+use Rattle.std.proofs.Common.{◌≡◌, ℕ, ◌+◌, ◌-◌, ◌*◌, ◌≤◌, Bool, true, false, cond, ◌&&◌, eqb, List, [], ◌∷◌, map, length, Some, fold, refl, ap, ◌∙◌, subst, mul_assoc, mul_comm, mul-add, arith}
 use Rattle.std.proofs.lemmas.List.{length-take}
 use Rattle.region_laws.specs.Boxes.{Places}
-use Rattle.region_laws.specs.Bands.{covers, banded}
+use Rattle.region_laws.specs.Bands.{covers}
 use Rattle.region_laws.specs.Counted.{sum, box_sum, list_sum, area}
 use Rattle.region_laws.specs.declared.rect.Rect.{Rect}
 use Rattle.region_laws.proofs.Counts.{sum_same, sum_bound, area_sum, area_bound}
@@ -14,17 +14,16 @@ use Rattle.chain.specs.Screens.{Screens, on_display, back_age}
 use Rattle.chain.specs.Swaps.{Swapped}
 use Rattle.reference.specs.declared.pane.Pane.{Pane}
 use Rattle.reference.specs.declared.answer.Shown.{Shown}
-use Rattle.reference.specs.Picture.{picture, covers as pane_covers, hides, deeper, depth}
-use Rattle.reference.specs.Damage.{State, stated, shifted}
-use Rattle.reference.specs.Painting.{Painted, one_per_place, capped, RegionPainted, ListBrushed}
+use Rattle.reference.specs.Picture.{covers as pane_covers, hides, deeper}
+use Rattle.reference.specs.Damage.{stated, shifted}
+use Rattle.reference.specs.Painting.{Painted, one_per_place, RegionPainted}
 use Rattle.scene.specs.States.{state_of}
 use Rattle.scene.specs.declared.scene.Scene.{Scene}
 use Rattle.panel.specs.declared.panel.Panel.{Panel}
 use Rattle.panel.specs.declared.sight.Sights.{Sights}
-use Rattle.panel.specs.declared.sight.Sight.{Sight}
 use Rattle.panel.specs.declared.sight.Tally.{Tally}
 use Rattle.panel.specs.Sights.{sight, sights_of, composed, stacked}
-use Rattle.panel.specs.Paints.{ChainOnly, picture_by, depth_by, PaintedList}
+use Rattle.panel.specs.Paints.{picture_by, depth_by, PaintedList}
 use Rattle.panel.specs.Calls.{Meaning, stated_by, picture_of, depth_of, Displays}
 use Rattle.panel.proofs.Sighting.{composed_is, stacked_is}
 

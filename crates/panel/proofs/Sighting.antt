@@ -1,19 +1,18 @@
 -- The sights of a stack make its whole picture.
-use Rattle.std.proofs.Common.{◌≡◌, ℕ, zero, suc, ◌+◌, ◌-◌, ◌<◌, ◌≤◌, Bool, true, false, cond, ◌&&◌, ◌||◌, eqb, ltb, leb, ◌⊎◌, List, [], ◌∷◌, ◌++◌, map, length, get_or, take, drop, set, is_some, Some, None, fold, Option, sym, refl, ap, ◌∙◌, subst, inl, inr, arith, take_all}
+use Rattle.std.proofs.Common.{◌≡◌, ℕ, ◌+◌, ◌<◌, ◌≤◌, Bool, true, false, cond, ◌&&◌, ltb, leb, List, [], ◌∷◌, ◌++◌, map, length, get_or, take, set, is_some, Some, None, fold, Option, sym, refl, ap, ◌∙◌, arith, take_all}
 use Rattle.std.proofs.lemmas.List.{take_more_set, map_more}
 use Rattle.std.proofs.lemmas.Bool.Decides.{nat_tests}
-use Rattle.std.proofs.lemmas.Bool.{cases_Bool, and_parts, cond-true, cond-false, false≢true, both_ways, leb-true, or_cases}
-use Rattle.region_laws.specs.Boxes.{box, inside, no_box}
+use Rattle.region_laws.specs.Boxes.{inside}
 use Rattle.region_laws.specs.declared.rect.Rect.{Rect}
 use Rattle.surface.specs.declared.size.Size.{Size}
 use Rattle.surface.specs.Told.{Told, on, has, fits, passes}
 use Rattle.surface.specs.Sound.{Sound, boxed}
 use Rattle.reference.specs.declared.pane.Pane.{Pane}
 use Rattle.reference.specs.Places.{past, whole_box, surface_box}
-use Rattle.reference.specs.Picture.{pixel_at, solid_at, pane_at, covers, hides, laid_over, picture, deeper, depth}
+use Rattle.reference.specs.Picture.{pixel_at, solid_at, pane_at, covers, hides, laid_over, deeper}
 use Rattle.panel.specs.declared.sight.Spot.{Spot}
 use Rattle.panel.specs.declared.sight.Sight.{Sight}
-use Rattle.panel.specs.Sights.{sight, spot, between, spot_of, spot_at, box_or, covered_by, meets, blocks, pixel_at_spot, sight_pixel, composed, stacked}
+use Rattle.panel.specs.Sights.{sight, spot, between, spot_of, box_or, covered_by, meets, blocks, pixel_at_spot, sight_pixel}
 
 -- one pane more is looked at
 pub seen_more : (f : Pane → Sight) (ps : List Pane) (all : List Sight) (i : ℕ) (z : Pane) (s : Sight) → i < length ps → i < length all → take i all ≡ map f (take i ps) → s ≡ f (get_or ps i z)

@@ -18,7 +18,7 @@ use Rattle.reference.specs.Stack.{height_of}
 use Rattle.reference.specs.Places.{surface_box}
 use Rattle.reference.specs.Picture.{picture, depth}
 use Rattle.reference.specs.Refusals.{known, natural, refusal, open_refusal}
-use Rattle.reference.specs.Damage.{State, opening, stated, shifted}
+use Rattle.reference.specs.Damage.{opening, stated, shifted}
 use Rattle.reference.specs.Steps.{next, telling_at}
 use Rattle.reference.specs.Painting.{RegionPainted}
 use Rattle.reference.specs.History.{Event, World}

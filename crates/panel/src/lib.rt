@@ -1,4 +1,6 @@
 // The panel: a stack of panes over a shelf, painted into a chain of picture buffers.
+#![tactic(auto)]
+
 mod asking;
 mod calls;
 mod looking;

@@ -1,5 +1,5 @@
 -- One channel laid over another.
-use Rattle.std.proofs.Common.{◌≡◌, ℕ, ◌+◌, ◌-◌, ◌*◌, ◌≤◌, min, mul-le-mul_right, arith}
+use Rattle.std.proofs.Common.{◌≡◌, ℕ, ◌+◌, ◌-◌, ◌≤◌, mul-le-mul_right, arith}
 use Rattle.pixel.specs.Channel.{blended, dimmed}
 
 -- a clear channel shows d as it is

@@ -1,5 +1,5 @@
 -- Four bytes packed into a pixel, and taken out again.
-use Rattle.std.proofs.Common.{◌≡◌, ℕ, ◌+◌, ◌*◌, ◌/◌, ◌%◌, ◌<◌, ◌≤◌, Bool, true, ◌&&◌, leb, List, [], ◌∷◌, get_or, arith}
+use Rattle.std.proofs.Common.{◌≡◌, ℕ, ◌<◌, ◌≤◌, true, leb, arith}
 use Rattle.std.proofs.lemmas.Bool.{and_parts, and_from, leb-true, le-leb}
 use Rattle.pixel.specs.Channel.{blended}
 use Rattle.pixel.specs.Premultiplied.{alpha, red, green, blue, argb, laid, premultiplied, unclamped}

@@ -1,3 +1,5 @@
+#![tactic(auto)]
+
 mod channel;
 mod index;
 mod pixel;

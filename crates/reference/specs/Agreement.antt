@@ -1,5 +1,5 @@
 -- Two panels on two chains show the same frames.
-use Rattle.std.specs.Prelude.{◌≡◌, ℕ, Bool, true, List, [], ◌∷◌, Some, None, Option}
+use Rattle.std.specs.Prelude.{◌≡◌, ℕ, true, List, [], ◌∷◌, Some, None, Option}
 use Rattle.surface.specs.Told.{Told}
 use Rattle.surface.specs.declared.order.Order.{Order}
 use Rattle.chain.specs.Screens.{Screens, inside, front_pixel}

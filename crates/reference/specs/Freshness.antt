@@ -1,5 +1,5 @@
 -- What the buffers of a chain still hold of the picture.
-use Rattle.std.specs.Prelude.{◌≡◌, ℕ, zero, suc, ◌-◌, ◌<◌, Bool, true, false, cond, ◌||◌, List, [], ◌∷◌, Some}
+use Rattle.std.specs.Prelude.{◌≡◌, ℕ, zero, suc, ◌-◌, ◌<◌, true, false, cond, ◌||◌, List, [], ◌∷◌, Some}
 use Rattle.region_laws.specs.Boxes.{Places}
 use Rattle.region_laws.specs.Bands.{covers}
 use Rattle.region_laws.specs.declared.rect.Rect.{Rect}

@@ -1,6 +1,6 @@
 -- The law of whole runs: what must hold of every call that was made on a panel, by the reference compositor.
-use Rattle.std.specs.Prelude.{◌≡◌, ℕ, ◌+◌, ◌%◌, ◌^◌, ◌<◌, ◌≤◌, Bool, true, false, List, [], ◌∷◌, Some, None, Option}
-use Rattle.region_laws.specs.Boxes.{Places, no_box}
+use Rattle.std.specs.Prelude.{◌≡◌, ℕ, ◌+◌, ◌%◌, ◌^◌, true, false, List, [], ◌∷◌, Some, None, Option}
+use Rattle.region_laws.specs.Boxes.{no_box}
 use Rattle.region_laws.specs.Bands.{covers}
 use Rattle.region_laws.specs.Counted.{pixels, place_sum}
 use Rattle.region_laws.specs.declared.rect.Rect.{Rect}
@@ -17,7 +17,6 @@ use Rattle.reference.specs.Picture.{picture, depth}
 use Rattle.reference.specs.Refusals.{refusal, natural}
 use Rattle.reference.specs.Damage.{State, opening, stated}
 use Rattle.reference.specs.Steps.{next}
-use Rattle.reference.specs.Freshness.{Fresh}
 
 -- One call on a panel: what was called and answered, and the shelf and what the chain told before and after.
 pub record Event (P S : Type 0) : Type 0 where

@@ -1,5 +1,5 @@
 -- What a panel keeps from call to call.
-use Rattle.std.specs.Prelude.{◌≡◌, ℕ, ◌≤◌, List, ◌∷◌}
+use Rattle.std.specs.Prelude.{◌≡◌, ℕ, ◌≤◌, List}
 use Rattle.chain.specs.Screens.{Screens}
 use Rattle.reference.specs.declared.call.Call.{Call}
 use Rattle.reference.specs.declared.answer.Answer.{Answer}

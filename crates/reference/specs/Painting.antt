@@ -1,5 +1,5 @@
 -- What painting some places does to a chain.
-use Rattle.std.specs.Prelude.{◌≡◌, ℕ, ◌+◌, ◌-◌, ◌%◌, ◌^◌, min, Bool, cond, ◌&&◌, List, Some, ◌==◌}
+use Rattle.std.specs.Prelude.{◌≡◌, ℕ, ◌+◌, ◌-◌, ◌%◌, ◌^◌, min, cond, ◌&&◌, List, Some, ◌==◌}
 use Rattle.region_laws.specs.Boxes.{Places, box, inside as inside_box}
 use Rattle.region_laws.specs.Bands.{covers}
 use Rattle.region_laws.specs.Counted.{box_sum, list_sum}

@@ -1,5 +1,5 @@
 -- Places of the display and places of a surface.
-use Rattle.std.specs.Prelude.{ℕ, suc, ◌+◌, ◌-◌, Bool, cond, List, ℤ, pos, negsuc, ◌+ℤ◌, Some, None, Option, nat_le}
+use Rattle.std.specs.Prelude.{ℕ, suc, ◌+◌, ◌-◌, cond, List, ℤ, pos, negsuc, ◌+ℤ◌, Some, None, Option, nat_le}
 use Rattle.region_laws.specs.Boxes.{box}
 use Rattle.region_laws.specs.declared.rect.Rect.{Rect}
 use Rattle.region_laws.specs.Joined.{single}

@@ -1,6 +1,5 @@
 -- When a call is refused, and how a refusal is told.
-use Rattle.std.specs.Prelude.{ℕ, Bool, true, false, cond, not, ◌&&◌, ◌||◌, List, length, ℤ, pos, negsuc, is_some, Some, None, Option, int_lt, nat_le, nat_lt}
-use Rattle.surface.specs.declared.order.Order.{Order}
+use Rattle.std.specs.Prelude.{ℕ, Bool, false, cond, not, ◌&&◌, ◌||◌, List, length, ℤ, pos, negsuc, is_some, Some, None, Option, int_lt, nat_le, nat_lt}
 use Rattle.surface.specs.Told.{Told, opened}
 use Rattle.reference.specs.declared.pane.Pane.{Pane}
 use Rattle.reference.specs.declared.call.Call.{Call}

@@ -1,5 +1,5 @@
 -- What a call makes of the reference compositor's state.
-use Rattle.std.specs.Prelude.{ℕ, cond, List, ℤ, is_some, Some, None, Option, slice_index_or}
+use Rattle.std.specs.Prelude.{ℕ, cond, is_some, Some, None, Option, slice_index_or}
 use Rattle.std.specs.List.{remove}
 use Rattle.region_laws.specs.declared.rect.Rect.{Rect}
 use Rattle.surface.specs.Told.{Told}

@@ -1,4 +1,6 @@
 // The plain types of the panel's calls, and in specs/ the reference compositor, which says what the panel must do.
+#![tactic(auto)]
+
 mod answer;
 mod call;
 mod pane;

@@ -1,23 +1,21 @@
 -- Two lawful runs of equal calls, over shelves that tell the same, agree.
-use Rattle.std.proofs.Common.{◌≡◌, ℕ, zero, suc, ◌<◌, Bool, true, false, cond, not, ◌&&◌, ◌||◌, ltb, List, [], ◌∷◌, ◌++◌, length, get_or, ℤ, pos, negsuc, is_some, Some, None, fold, Option, sym, refl, ap, ◌∙◌, subst, arith}
+use Rattle.std.proofs.Common.{◌≡◌, ℕ, Bool, true, false, cond, ◌&&◌, List, [], ◌∷◌, ℤ, is_some, Some, None, Option, sym, refl, ap, ◌∙◌, subst}
 use Rattle.std.specs.List.{remove}
 use Rattle.region_laws.specs.declared.rect.Rect.{Rect}
 use Rattle.surface.specs.Told.{Told, opened}
 use Rattle.surface.specs.declared.order.Order.{Order}
-use Rattle.chain.specs.Screens.{Screens, inside, front_pixel}
+use Rattle.chain.specs.Screens.{Screens, inside}
 use Rattle.reference.specs.declared.pane.Pane.{Pane}
 use Rattle.reference.specs.declared.call.Call.{Call}
 use Rattle.reference.specs.declared.call.Call.TheVariants.{Place, Move, Lift, Remove, Tell, Show}
-use Rattle.reference.specs.declared.answer.Answer.{Answer}
-use Rattle.reference.specs.declared.answer.Answer.TheVariants as answers
 use Rattle.reference.specs.declared.refusal.Refusal.{Refusal}
-use Rattle.reference.specs.Stack.{pane, no_pane, height_of, placed, moved, lifted}
+use Rattle.reference.specs.Stack.{pane, height_of, placed, moved, lifted}
 use Rattle.reference.specs.Places.{past, surface_box}
 use Rattle.reference.specs.Picture.{picture, pane_at, pixel_at, laid_over}
 use Rattle.reference.specs.Refusals.{refusal, natural, below, known, place_refusal, move_refusal, lift_refusal, remove_refusal, tell_refusal}
 use Rattle.reference.specs.Damage.{State}
 use Rattle.reference.specs.Steps.{done, next, moving_at, lifting_at, removing_at, telling_at}
-use Rattle.reference.specs.History.{Event, World, reference, Lawful, Right, Plain, Taken, Shows, ToldRight, Follows, plainly, damage_of}
+use Rattle.reference.specs.History.{Event, World, reference, Lawful, Right, ToldRight, plainly, damage_of}
 use Rattle.reference.specs.Agreement.{TellSame, refusal_of, Both, Alike, FramesAgree, Agree, SameWorld, FramesStayAlike}
 
 known_same : {P : Type 0} (t u : Told P) → TellSame t u → (k : ℤ) → known t k ≡ known u k

@@ -1,7 +1,6 @@
 -- Every call keeps the law of whole runs.
-use Rattle.std.proofs.Common.{◌≡◌, ℕ, zero, suc, ◌+◌, ◌%◌, ◌^◌, ◌<◌, ◌≤◌, Bool, true, false, cond, not, ◌&&◌, ◌||◌, ltb, ◌⊎◌, List, [], ◌∷◌, length, get_or, ℤ, is_some, Some, None, Option, sym, refl, ap, ◌∙◌, subst, inl, inr, arith}
-use Rattle.std.proofs.lemmas.Bool.Decides.{nat_tests as ways}
-use Rattle.std.proofs.lemmas.Bool.{cases_Bool, cond-true, cond-false, and_parts, and_from, ltb-true, lt-ltb, not-true}
+use Rattle.std.proofs.Common.{◌≡◌, ℕ, ◌+◌, ◌%◌, ◌^◌, ◌<◌, Bool, true, false, cond, not, List, [], ◌∷◌, ℤ, is_some, Some, None, Option, sym, refl, ap, ◌∙◌, subst, arith}
+use Rattle.std.proofs.lemmas.Bool.{cond-true, and_parts, and_from, ltb-true, lt-ltb}
 use Rattle.region_laws.specs.Boxes.{box, no_box, inside}
 use Rattle.region_laws.specs.Bands.{covers}
 use Rattle.region_laws.specs.Counted.{sum, list_sum, place_sum, pixels, area}
@@ -15,7 +14,6 @@ use Rattle.surface.specs.declared.order.Order.{Order}
 use Rattle.chain.specs.Screens.{Screens, on_display, back_age, front_pixel, back_pixel}
 use Rattle.chain.specs.Screens as screens
 use Rattle.chain.specs.Swaps.{Swapped}
-use Rattle.reference.specs.declared.pane.Pane.{Pane}
 use Rattle.reference.specs.declared.call.Call.{Call}
 use Rattle.reference.specs.declared.call.Call.TheVariants.{Place, Move, Lift, Remove, Tell, Show}
 use Rattle.reference.specs.declared.answer.Answer.{Answer}
@@ -23,12 +21,12 @@ use Rattle.reference.specs.declared.answer.Answer.TheVariants as answers
 use Rattle.reference.specs.declared.refusal.Refusal.{Refusal}
 use Rattle.reference.specs.Stack.{pane, height_of}
 use Rattle.reference.specs.Picture.{picture, depth}
-use Rattle.reference.specs.Refusals.{refusal, natural, unless, known, on_stack, far}
-use Rattle.reference.specs.Damage.{State, opening, whole, stated, shifted, OnDisplay, Orderly}
+use Rattle.reference.specs.Refusals.{refusal, natural, unless, known, on_stack}
+use Rattle.reference.specs.Damage.{State, opening, stated, shifted, OnDisplay, Orderly}
 use Rattle.reference.specs.Steps.{done, next, telling_at}
-use Rattle.reference.specs.Painting.{Painted, one_per_place, RegionPainted}
+use Rattle.reference.specs.Painting.{one_per_place, RegionPainted}
 use Rattle.reference.specs.Freshness.{Fresh, due}
-use Rattle.reference.specs.History.{Event, World, reference, Lawful, Right, Plain, Untouched, Taken, Shows, ToldRight, Follows, plainly, damage_of, shelf_after, screens_after}
+use Rattle.reference.specs.History.{Event, World, Right, Shows, ToldRight, plainly, damage_of}
 use Rattle.reference.specs.Kept.{Kept, Sides, event}
 use Rattle.reference_laws.proofs.Regions.{stated_on, stated_enough, whole_on, whole_covers, past_on, empty_on}
 use Rattle.reference_laws.proofs.Freshness.{fresh_opening, fresh_noted, fresh_shown, front_whole, front_outside}

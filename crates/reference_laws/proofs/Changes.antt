@@ -1,7 +1,7 @@
 -- What each call changes, and that it notes it.
-use Rattle.std.proofs.Common.{◌≡◌, ℕ, zero, suc, ◌+◌, ◌<◌, ◌≤◌, Bool, true, false, cond, ◌&&◌, eqb, ltb, ◌⊎◌, List, [], ◌∷◌, ◌++◌, length, get_or, set, is_some, Some, None, Option, sym, refl, ap, ◌∙◌, subst, inl, inr, arith}
-use Rattle.std.specs.List.{insert, remove, AllByRecursion as All}
-use Rattle.std.proofs.lemmas.Bool.{and_parts, ltb-true, eqb-true}
+use Rattle.std.proofs.Common.{◌≡◌, ℕ, zero, suc, ◌<◌, ◌≤◌, Bool, true, false, eqb, ltb, List, [], ◌∷◌, length, get_or, Some, None, Option, sym, refl, ◌∙◌, subst, arith}
+use Rattle.std.specs.List.{remove, AllByRecursion as All}
+use Rattle.std.proofs.lemmas.Bool.{and_parts, ltb-true}
 use Rattle.region_laws.specs.Bands.{covers}
 use Rattle.region_laws.specs.Joined.{joined}
 use Rattle.region_laws.specs.declared.rect.Rect.{Rect}
@@ -10,13 +10,13 @@ use Rattle.surface.specs.Sound.{Sound}
 use Rattle.surface.specs.Damaged.{Damaged}
 use Rattle.chain.specs.Screens.{Screens, on_display}
 use Rattle.reference.specs.declared.pane.Pane.{Pane}
-use Rattle.reference.specs.Stack.{no_pane, height_of, placed, moved, lifted, Without, Once}
+use Rattle.reference.specs.Stack.{no_pane, height_of, placed, lifted, Without, Once}
 use Rattle.reference.specs.Places.{surface_box, shown_box, moved_box}
 use Rattle.reference.specs.Picture.{picture, pane_at}
-use Rattle.reference.specs.Damage.{State, noted, restacked, OnDisplay, Orderly}
+use Rattle.reference.specs.Damage.{State, restacked, OnDisplay, Orderly}
 use Rattle.reference.specs.Steps.{placing, moving_at, lifting_at, removing_at, telling_at}
 use Rattle.reference_laws.proofs.Pictures.{picture_removed, picture_inserted, picture_set, picture_placed, picture_told, pane_none, told_other, told_off}
-use Rattle.reference_laws.proofs.Stacks.{At, height_none, height_some, once_placed, once_moved, once_lifted, once_removed, removed_without}
+use Rattle.reference_laws.proofs.Stacks.{height_none, height_some, once_placed, once_moved, once_lifted, once_removed, removed_without}
 use Rattle.reference_laws.proofs.Regions.{joined_off, joined_on, clipped_on}
 use Rattle.reference_laws.proofs.Freshness.{Noted}
 

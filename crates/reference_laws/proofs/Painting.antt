@@ -1,5 +1,5 @@
 -- Painting pixel by pixel, row by row, box by box.
-use Rattle.std.proofs.Common.{◌≡◌, ℕ, zero, suc, ◌+◌, ◌-◌, ◌*◌, ◌%◌, ◌^◌, ◌<◌, ◌≤◌, min, max, Bool, true, false, cond, ◌&&◌, ◌||◌, eqb, ltb, leb, List, [], ◌∷◌, length, get_or, take, Some, None, Option, sym, refl, ap, ◌∙◌, subst, add-zero, add_assoc, mod-eq_of_lt, zero-add, add-one, arith}
+use Rattle.std.proofs.Common.{◌≡◌, ℕ, zero, suc, ◌+◌, ◌-◌, ◌%◌, ◌^◌, ◌<◌, ◌≤◌, max, Bool, true, false, cond, ◌&&◌, ◌||◌, eqb, ltb, List, [], ◌∷◌, length, get_or, take, Some, Option, sym, refl, ap, ◌∙◌, subst, add-zero, add_assoc, mod-eq_of_lt, zero-add, add-one, arith}
 use native.Mathlib.Nat.{mod-add-mod}
 use Rattle.std.proofs.lemmas.Bool.Decides.{nat_tests}
 use Rattle.region_laws.specs.Boxes.{Places, box, no_box, inside}
@@ -7,7 +7,7 @@ use Rattle.region_laws.specs.Bands.{covers}
 use Rattle.region_laws.specs.Counted.{sum, box_sum, list_sum}
 use Rattle.region_laws.specs.declared.rect.Rect.{Rect}
 use Rattle.chain.specs.Screens.{Screens, on_display}
-use Rattle.chain.specs.Writes.{Wrote, Puts, hit}
+use Rattle.chain.specs.Writes.{Puts, hit}
 use Rattle.reference.specs.Painting.{Painted, one_per_place, capped, Brushed, BoxBrushed, row_box, ListBrushed}
 
 unpainted : {P : Type 0} (v r o : Bool) (p : P) (q : Option P) → r ≡ false → q ≡ cond (v && (r && o)) (Some p) q

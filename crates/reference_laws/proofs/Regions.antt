@@ -1,19 +1,17 @@
 -- The regions that the reference keeps and states.
-use Rattle.std.proofs.Common.{◌≡◌, ℕ, zero, suc, ◌+◌, ◌-◌, ◌<◌, ◌≤◌, Bool, true, false, cond, ◌&&◌, ◌||◌, ltb, leb, ◌⊎◌, List, [], ◌∷◌, take, ℤ, pos, negsuc, Some, None, fold, Option, sym, refl, ap, ◌∙◌, subst, inl, inr, ⊎_elim, arith}
+use Rattle.std.proofs.Common.{◌≡◌, ℕ, zero, suc, ◌-◌, ◌≤◌, Bool, true, false, ◌||◌, ltb, ◌⊎◌, List, [], ◌∷◌, take, ℤ, pos, negsuc, fold, sym, refl, ap, ◌∙◌, subst, inl, inr, ⊎_elim, arith}
 use Rattle.std.specs.List.{AllByRecursion as All}
 use Rattle.std.proofs.lemmas.Bool.Decides.{nat_tests}
 use Rattle.std.proofs.lemmas.Bool.{cases_Bool, or_parts, or_from, cond-true, cond-false, and_parts, ltb-true}
-use Rattle.region_laws.specs.Boxes.{box, inside, full, Within}
-use Rattle.region_laws.specs.Bands.{covers, banded}
+use Rattle.region_laws.specs.Boxes.{box, inside, full}
+use Rattle.region_laws.specs.Bands.{covers}
 use Rattle.region_laws.specs.Joined.{joined, single}
 use Rattle.region_laws.specs.declared.rect.Rect.{Rect}
 use Rattle.region_laws.proofs.Join.{single_banded, joined_banded, joined_covers, joined_least}
 use Rattle.region.specs.Clipped.{held, held_box}
 use Rattle.region.specs.declared.signed_rect.SignedRect.{SignedRect}
 use Rattle.chain.specs.Screens as screens
-use Rattle.reference.specs.declared.pane.Pane.{Pane}
-use Rattle.reference.specs.Places.{shown_box}
-use Rattle.reference.specs.Damage.{State, whole, opening, usable, stated, shifted, kept, OnDisplay}
+use Rattle.reference.specs.Damage.{State, whole, usable, stated, OnDisplay}
 use Rattle.reference.specs.Freshness.{among, due}
 
 -- a place that a join does not cover is in neither region

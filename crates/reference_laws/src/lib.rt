@@ -1,1 +1,3 @@
+#![tactic(auto)]
+
 // Laws of the reference compositor, cited by the proofs of the panel.

@@ -1,12 +1,12 @@
 -- Held edges have the pixels of a display that the signed ones have.
-use Rattle.std.proofs.Common.{◌≡◌, ℕ, ◌+◌, ◌<◌, ◌≤◌, min, Bool, true, false, ◌&&◌, ◌||◌, ltb, leb, ◌⊎◌, List, [], ◌∷◌, ◌++◌, ℤ, pos, negsuc, Some, None, Option, sym, refl, ap, ◌∙◌, inl, inr, arith}
+use Rattle.std.proofs.Common.{◌≡◌, ℕ, ◌<◌, ◌≤◌, true, false, ◌&&◌, ltb, leb, ◌⊎◌, ℤ, pos, negsuc, Some, None, sym, ap, ◌∙◌, inl, inr, arith}
 use lib.Signed.{lt_z, le_z}
 use Rattle.std.proofs.lemmas.Bool.Decides.{nat_tests}
 use Rattle.std.proofs.lemmas.Bool.{cases_lt, cond-true, cond-false}
 use Rattle.region_laws.specs.declared.rect.Rect.{Rect}
 use Rattle.region_laws.specs.Laws.{Same}
 use Rattle.region_laws.proofs.Smallest.{nothing}
-use Rattle.region_laws.specs.Boxes.{inside, full, box}
+use Rattle.region_laws.specs.Boxes.{inside, full}
 use Rattle.region.specs.Clipped.{held, held_box, within, shown, common, clipped}
 use Rattle.region.specs.declared.signed_rect.SignedRect.{SignedRect}
 

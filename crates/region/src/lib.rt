@@ -1,4 +1,6 @@
 // Boxes clipped to a display, and regions: sets of display pixels as banded lists of at most 32 boxes.
+#![tactic(auto)]
+
 mod asking;
 mod clip;
 mod cover;

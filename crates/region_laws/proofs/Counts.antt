@@ -1,17 +1,17 @@
 -- Sums of a weight over a region's boxes are sums over its pixels.
-use Rattle.std.proofs.Common.{◌≡◌, ℕ, zero, suc, ◌+◌, ◌-◌, ◌*◌, ◌<◌, ◌≤◌, min, max, Bool, true, false, cond, not, ◌&&◌, ◌||◌, eqb, ltb, leb, ◌≢◌, ◌⊎◌, List, [], ◌∷◌, ◌++◌, length, get_or, take, drop, sym, refl, ap, ◌∙◌, subst, inl, inr, suc-mul, mul_comm, mul-zero, zero-add, zero-mul, mul-one, arith}
+use Rattle.std.proofs.Common.{◌≡◌, ℕ, zero, suc, ◌+◌, ◌-◌, ◌*◌, ◌<◌, ◌≤◌, min, max, Bool, true, false, cond, ◌&&◌, ◌||◌, ltb, leb, ◌⊎◌, List, [], ◌∷◌, ◌++◌, length, get_or, take, drop, sym, refl, ap, ◌∙◌, inl, inr, suc-mul, mul_comm, zero-add, zero-mul, mul-one, arith}
 use Rattle.std.proofs.lemmas.List.{at_drop_more, at_drop_all, take_more}
 use Rattle.std.proofs.lemmas.Bool.Decides.{nat_tests}
-use Rattle.std.proofs.lemmas.Bool.{cases_lt, and_parts, leb-true, cond_both, cond-true, false≢true}
-use Rattle.region_laws.specs.Boxes.{Places, no_box, inside}
-use Rattle.region_laws.specs.Runs.{Run, run, at, Ok, tidy, reach}
+use Rattle.std.proofs.lemmas.Bool.{cases_lt, and_parts, cond_both, cond-true, false≢true}
+use Rattle.region_laws.specs.Boxes.{no_box, inside}
+use Rattle.region_laws.specs.Runs.{Run, at, Ok, tidy, reach}
 use Rattle.region_laws.specs.Bands.{covers, Row, Band, same_row, same_bit, bit, good_row, banded, bands, boxes, row_boxes, farthest}
 use Rattle.region_laws.specs.Listed.{wide, high}
-use Rattle.region_laws.specs.Counted.{sum, box_sum, list_sum, place_sum, pixels, area}
+use Rattle.region_laws.specs.Counted.{sum, box_sum, list_sum, area}
 use Rattle.region_laws.specs.Laws.{FitsIn, EachOnce, Counts, StaysIn}
 use Rattle.region_laws.specs.declared.rect.Rect.{Rect}
 use Rattle.region_laws.proofs.Unique.{at_in, at_left, at_right, at_before}
-use Rattle.region_laws.proofs.Tidy.{Parts, parts, row_at_ok, bands_ok, row_ok, covers_tidy, boxes_bands, good_tidy}
+use Rattle.region_laws.proofs.Tidy.{parts, row_at_ok, bands_ok, covers_tidy, boxes_bands, good_tidy}
 use Rattle.region_laws.proofs.Push.{ok_reach}
 use Rattle.region_laws.specs.Rules.{Sound}
 use Rattle.region_laws.proofs.Pairs.{All, banded_all, banded_wide, banded_high}

@@ -1,13 +1,12 @@
 -- Every set of pixels of a display has a banded list.
-use Rattle.std.proofs.Common.{◌≡◌, ℕ, zero, suc, ◌+◌, ◌-◌, ◌<◌, ◌≤◌, Bool, true, false, cond, not, ◌&&◌, ◌||◌, eqb, ltb, leb, ◌≢◌, ◌⊎◌, List, [], ◌∷◌, ◌++◌, sym, refl, ap, ◌∙◌, subst, inl, inr, append_assoc, arith}
-use Rattle.std.proofs.lemmas.Bool.Decides.{nat_tests}
-use Rattle.std.proofs.lemmas.Bool.{cases_lt, cases_Bool, cond_both, cond-true, cond-false, and_parts, and_from, le-leb, lt-ltb, not_from_false, or_left, or_right, eq-eqb, and_cases, eqb-false, leb-true, both_ways, ne_eqb, and_left, false≢true}
+use Rattle.std.proofs.Common.{◌≡◌, ℕ, zero, suc, ◌<◌, ◌≤◌, Bool, true, false, cond, not, ◌&&◌, eqb, ltb, leb, ◌⊎◌, List, [], ◌∷◌, ◌++◌, sym, refl, ap, ◌∙◌, subst, inl, inr, arith}
+use Rattle.std.proofs.lemmas.Bool.{cases_lt, cases_Bool, cond-true, cond-false, and_from, le-leb, lt-ltb, not_from_false, or_left, or_right, eq-eqb, both_ways, ne_eqb, and_left, false≢true}
 use Rattle.region_laws.specs.Runs.{Run, run, at, tidy, apart, push, runs, reach}
 use Rattle.region_laws.specs.Bands.{Row, Band, boxes, bands, banded, stack, same_row, same_bit, bit, good_row, row_boxes, covers, farthest}
 use Rattle.region_laws.specs.Listed.{row_of, listed}
 use Rattle.region_laws.specs.declared.rect.Rect.{Rect}
-use Rattle.region_laws.proofs.Tidy.{Parts, parts, tidy_ok, good_tidy, same_row_eq, same_row_true, same_bit_eq, same_bit_true, covers_bands, bands_ok, row_ok}
-use Rattle.region_laws.proofs.Push.{push_last, push_reach, ok_reach, runs_made}
+use Rattle.region_laws.proofs.Tidy.{Parts, parts, good_tidy, same_row_eq, same_row_true, same_bit_eq, same_bit_true, covers_bands}
+use Rattle.region_laws.proofs.Push.{push_last, push_reach, runs_made}
 
 module _ {V : Type 0} (same : V → V → Bool) (good : V → Bool) where
   pub tidy_from : (low : ℕ) (r : Run V) (rs : List (Run V)) → Parts same good low r rs → tidy same good low (r ∷ rs) ≡ true

@@ -1,13 +1,12 @@
 -- One more span behind the others of a row, and what it does to the row that a list of boxes holds.
-use Rattle.std.proofs.Common.{◌≡◌, ℕ, zero, suc, ◌+◌, ◌-◌, ◌*◌, ◌<◌, ◌≤◌, max, Bool, true, false, cond, not, ◌&&◌, ◌||◌, eqb, ltb, leb, ◌≢◌, ◌⊎◌, List, [], ◌∷◌, ◌++◌, length, get_or, take, drop, set, sym, refl, ap, ◌∙◌, subst, inl, inr, append_assoc, arith}
+use Rattle.std.proofs.Common.{◌≡◌, ℕ, ◌+◌, ◌-◌, ◌<◌, ◌≤◌, max, Bool, true, false, cond, ◌&&◌, ◌||◌, ltb, leb, ◌≢◌, ◌⊎◌, List, [], ◌∷◌, ◌++◌, length, get_or, take, set, sym, refl, ap, ◌∙◌, subst, inl, inr, append_assoc, arith}
 use Rattle.std.proofs.lemmas.Bool.Decides.{nat_tests}
-use Rattle.std.proofs.lemmas.Bool.{cases_lt, cond-true, cond-false, lt-ltb, le-ltb, cond_both, ltb-true, ltb-false, true≢false}
-use Rattle.std.proofs.lemmas.List.{take_more, take_more_set, take-set}
+use Rattle.std.proofs.lemmas.Bool.{cond-true, cond-false, lt-ltb, le-ltb, cond_both, ltb-true, ltb-false, true≢false}
+use Rattle.std.proofs.lemmas.List.{take_more, take_more_set}
 use Rattle.region_laws.specs.Runs.{Run, run, at, Ok, Apart}
 use Rattle.region_laws.specs.Bands.{Row}
 use Rattle.region_laws.specs.Spans.{spans, extend}
 use Rattle.region_laws.specs.declared.rect.Rect.{Rect}
-use Rattle.region_laws.proofs.Unique.{at_in, at_left, at_right, at_before, ok_lower}
 
 pub spans-append : (xs ys : List Rect) → spans (xs ++ ys) ≡ spans xs ++ spans ys
 spans-append [] ys = refl

@@ -1,15 +1,13 @@
 -- What `append` does to the boxes is what `push` does to the bands.
-use Rattle.std.proofs.Common.{◌≡◌, ℕ, zero, suc, ◌+◌, ◌-◌, ◌*◌, ◌<◌, ◌≤◌, max, Bool, true, false, cond, not, ◌&&◌, ◌||◌, eqb, ltb, leb, ◌≢◌, ◌⊎◌, List, [], ◌∷◌, ◌++◌, length, get_or, take, drop, set, sym, refl, ap, ◌∙◌, subst, inl, inr, append_assoc, suc-add, zero-add, arith}
-use Rattle.std.proofs.lemmas.Bool.Decides.{nat_tests}
-use Rattle.std.proofs.lemmas.Bool.{cases_Bool, both_ways, cond-true, cond-false, eq-eqb, ne_eqb, false≢true, true≢false}
-use Rattle.std.proofs.lemmas.List.{append-nil, length-append}
-use Rattle.region_laws.specs.Runs.{Run, run, push, tidy}
+use Rattle.std.proofs.Common.{◌≡◌, ℕ, ◌+◌, Bool, true, false, ◌&&◌, eqb, List, [], ◌∷◌, ◌++◌, length, take, drop, sym, refl, ap, ◌∙◌, append_assoc, suc-add, zero-add}
+use Rattle.std.proofs.lemmas.Bool.{cond-true, cond-false, false≢true}
+use Rattle.std.proofs.lemmas.List.{append-nil}
+use Rattle.region_laws.specs.Runs.{run, push, tidy}
 use Rattle.region_laws.specs.Bands.{Row, Band, boxes, same_row, same_bit, bit, good_row, row_boxes}
 use Rattle.region_laws.specs.Spans.{spans}
-use Rattle.region_laws.specs.Boxes.{no_box}
 use Rattle.region_laws.specs.Stacked.{lowered, ends_at}
 use Rattle.region_laws.specs.declared.rect.Rect.{Rect}
-use Rattle.region_laws.proofs.Tidy.{same_row_true, Parts, parts, good_tidy}
+use Rattle.region_laws.proofs.Tidy.{parts, good_tidy}
 
 -- where the last band's boxes begin
 abbrev pub start_of : List Band → ℕ

@@ -1,14 +1,12 @@
 -- Banding is the four rules on the flat list.
-use Rattle.std.proofs.Common.{◌≡◌, ℕ, zero, suc, ◌+◌, ◌<◌, ◌≤◌, Bool, true, false, cond, not, ◌&&◌, ◌||◌, eqb, ltb, leb, ◌≢◌, ◌⊎◌, List, [], ◌∷◌, ◌++◌, length, get_or, sym, refl, ap, ◌∙◌, subst, inl, inr, arith}
+use Rattle.std.proofs.Common.{◌≡◌, ℕ, ◌<◌, ◌≤◌, true, leb, ◌≢◌, ◌⊎◌, List, [], ◌∷◌, length, sym, ap, ◌∙◌, subst, inl, inr, arith}
 use Rattle.std.proofs.lemmas.Bool.{and_parts, leb-true}
-use Rattle.region_laws.specs.Boxes.{no_box}
-use Rattle.region_laws.specs.Runs.{Run, run, at, tidy, reach, apart, Apart}
-use Rattle.region_laws.specs.Bands.{Row, Band, boxes, bands, banded, stack, same_row, same_bit, bit, good_row, row_boxes, farthest}
-use Rattle.region_laws.specs.Spans.{spans, row_at}
+use Rattle.region_laws.specs.Runs.{at, tidy, reach}
+use Rattle.region_laws.specs.Bands.{Band, boxes, bands, banded, same_row, good_row, row_boxes, farthest}
 use Rattle.region_laws.specs.Rules.{Sound, nth, Rules}
 use Rattle.region_laws.specs.declared.rect.Rect.{Rect}
 use Rattle.region_laws.proofs.Unique.{at_in, at_right, at_end}
-use Rattle.region_laws.proofs.Tidy.{Parts, parts, good_tidy, bands_ok, boxes_bands}
+use Rattle.region_laws.proofs.Tidy.{parts, good_tidy, bands_ok, boxes_bands}
 use Rattle.region_laws.proofs.Rows.{row_is}
 use Rattle.region_laws.proofs.Pairs.{All, all_append, all_map, all_at, OfRow, row_all, OfBands, bands_rest, bands_all, Before, banded_sound, banded_before}
 

@@ -1,9 +1,8 @@
 -- A flat list that keeps the four rules is banded.
-use Rattle.std.proofs.Common.{◌≡◌, ℕ, zero, suc, ◌+◌, ◌<◌, ◌≤◌, Bool, true, false, cond, not, ◌&&◌, ◌||◌, eqb, ltb, leb, ◌≢◌, ◌⊎◌, List, [], ◌∷◌, ◌++◌, length, get_or, sym, refl, ap, ◌∙◌, subst, inl, inr, arith}
+use Rattle.std.proofs.Common.{◌≡◌, ℕ, suc, ◌<◌, ◌≤◌, Bool, true, false, not, ◌&&◌, eqb, ltb, leb, ◌≢◌, ◌⊎◌, List, [], ◌∷◌, ◌++◌, length, sym, refl, ap, ◌∙◌, subst, inl, inr, arith}
 use Rattle.std.proofs.lemmas.Bool.Decides.{nat_tests}
-use Rattle.std.proofs.lemmas.Bool.{cases_lt, cases_Bool, and_parts, and_from, and_left, or_left, or_right, le-leb, lt-ltb, leb-true, eq-eqb, ne_eqb, cond-true, cond-false, not_from_false, false≢true}
-use Rattle.region_laws.specs.Boxes.{no_box}
-use Rattle.region_laws.specs.Runs.{Run, run, at, tidy, reach, apart}
+use Rattle.std.proofs.lemmas.Bool.{cases_lt, cases_Bool, and_parts, and_from, and_left, or_left, or_right, le-leb, lt-ltb, eq-eqb, ne_eqb, cond-true, cond-false, not_from_false, false≢true}
+use Rattle.region_laws.specs.Runs.{run, at, tidy, reach, apart}
 use Rattle.region_laws.specs.Bands.{Row, Band, boxes, bands, banded, stack, same_row, same_bit, bit, good_row, row_boxes, farthest}
 use Rattle.region_laws.specs.Listed.{high}
 use Rattle.region_laws.specs.Spans.{spans, row_at}
@@ -13,7 +12,7 @@ use Rattle.region_laws.proofs.Unique.{at_in, at_right}
 use Rattle.region_laws.proofs.Tidy.{Parts, parts, same_row_true, boxes_bands}
 use Rattle.region_laws.proofs.Exists.{tidy_from}
 use Rattle.region_laws.proofs.Rows.{row_bands}
-use Rattle.region_laws.proofs.Pairs.{All, all_append, all_map, all_both, all_at, OfBands, bands_rest, bands_all, Beside, Before, Pairs, all_high}
+use Rattle.region_laws.proofs.Pairs.{All, all_both, OfBands, bands_all, Before, Pairs, all_high}
 use Rattle.region_laws.proofs.Counts.{bands_high}
 use Rattle.region_laws.proofs.FourRules.{rules_from}
 

@@ -1,8 +1,8 @@
 -- The laws of a join. But for the worked examples nothing opens `stand_in` outside this file.
-use Rattle.std.proofs.Common.{◌≡◌, ℕ, ◌+◌, ◌<◌, ◌≤◌, Bool, true, false, cond, ◌&&◌, ◌||◌, ltb, leb, ◌⊎◌, List, [], ◌∷◌, ◌++◌, length, sym, refl, ap, ◌∙◌, subst, inl, inr, arith}
+use Rattle.std.proofs.Common.{◌≡◌, ℕ, ◌<◌, ◌≤◌, Bool, true, false, cond, ◌||◌, leb, ◌⊎◌, List, [], ◌∷◌, ◌++◌, length, sym, refl, ap, ◌∙◌, subst, inl, inr, arith}
 use Rattle.std.proofs.lemmas.Bool.Decides.{nat_tests}
-use Rattle.std.proofs.lemmas.Bool.{cases_Bool, cond-true, cond-false, cond_both, or_cases, or_left, or_right, leb-true, leb-false, le-leb, lt-leb, false≢true, both_ways, and_from, lt-ltb}
-use Rattle.region_laws.specs.Boxes.{Places, box, no_box, inside, full, Within, Smallest}
+use Rattle.std.proofs.lemmas.Bool.{cases_Bool, cond-true, cond-false, cond_both, or_cases, leb-true, le-leb, lt-leb, false≢true}
+use Rattle.region_laws.specs.Boxes.{box, no_box, inside, full, Within}
 use Rattle.region_laws.specs.Bands.{covers, banded, farthest}
 use Rattle.region_laws.specs.Joined.{either, union, cover_from, cover, single, most, stand_in, joined}
 use Rattle.region_laws.specs.declared.rect.Rect.{Rect}
@@ -10,7 +10,7 @@ use Rattle.region_laws.proofs.Tidy.{covers-append}
 use Rattle.region_laws.specs.Rules.{Sound}
 use Rattle.region_laws.proofs.Pairs.{All, all_append, banded_all}
 use Rattle.region_laws.proofs.Union.{union_banded, union_covers, union_swap, union_same, union_none}
-use Rattle.region_laws.proofs.Smallest.{Full, full_parts, full_from, Spot, spot, at_spot, spot_full, Inner, inner, one_smallest, smallest_same, cover_smallest, from_append, nothing}
+use Rattle.region_laws.proofs.Smallest.{full_parts, spot, at_spot, inner, one_smallest, smallest_same, cover_smallest, from_append, nothing}
 
 -- the list of one box
 pub single_banded : (b : Rect) → Sound b → banded (b ∷ []) ≡ true

@@ -1,7 +1,7 @@
 -- The laws of specs/Laws, gathered.
-use Rattle.std.proofs.Common.{◌≡◌, ℕ, ◌≤◌, true, List, [], length, sym, ap, ◌∙◌, subst}
+use Rattle.std.proofs.Common.{◌≡◌, ◌≤◌, true, List, length, sym, ap, ◌∙◌, subst}
 use Rattle.region_laws.specs.Bands.{covers, banded}
-use Rattle.region_laws.specs.Joined.{either, union, most, joined}
+use Rattle.region_laws.specs.Joined.{most, joined}
 use Rattle.region_laws.specs.Laws.{OneList, EverySet, Unites, Joins, JoinLaws}
 use Rattle.region_laws.specs.declared.rect.Rect.{Rect}
 use Rattle.region_laws.proofs.Tidy.{same_set}

@@ -1,8 +1,8 @@
 -- What a banded list says of its boxes one by one and two by two.
-use Rattle.std.proofs.Common.{◌≡◌, ℕ, zero, suc, ◌+◌, ◌<◌, ◌≤◌, max, Bool, true, false, cond, not, ◌&&◌, ◌||◌, eqb, ltb, leb, ◌≢◌, ◌⊎◌, List, [], ◌∷◌, ◌++◌, length, get_or, sym, refl, ap, ◌∙◌, subst, inl, inr, arith}
-use Rattle.std.proofs.lemmas.Bool.{and_parts, or_cases, leb-true, ltb-true, le-leb, and_from, not-true, false≢true, both_ways}
+use Rattle.std.proofs.Common.{◌≡◌, ℕ, zero, suc, ◌<◌, ◌≤◌, Bool, true, not, ltb, leb, ◌⊎◌, List, [], ◌∷◌, ◌++◌, length, get_or, sym, refl, ◌∙◌, subst, inl, inr, arith}
+use Rattle.std.proofs.lemmas.Bool.{and_parts, or_cases, leb-true, ltb-true, not-true, both_ways}
 use Rattle.region_laws.specs.Boxes.{no_box}
-use Rattle.region_laws.specs.Runs.{Run, run, tidy, reach, apart}
+use Rattle.region_laws.specs.Runs.{Run, tidy, reach}
 use Rattle.region_laws.specs.Bands.{Row, Band, boxes, bands, banded, same_row, same_bit, bit, good_row, row_boxes, farthest}
 use Rattle.region_laws.specs.Listed.{wide, high}
 use Rattle.region_laws.specs.Rules.{Sound}

@@ -1,9 +1,9 @@
 -- One more run behind the others.
-use Rattle.std.proofs.Common.{◌≡◌, ℕ, zero, suc, ◌+◌, ◌-◌, ◌*◌, ◌<◌, ◌≤◌, Bool, true, false, cond, not, ◌&&◌, ◌||◌, eqb, ltb, leb, ◌≢◌, ◌⊎◌, List, [], ◌∷◌, ◌++◌, length, sym, refl, ap, ◌∙◌, subst, inl, inr, arith}
+use Rattle.std.proofs.Common.{◌≡◌, ℕ, zero, suc, ◌<◌, ◌≤◌, Bool, true, false, cond, ◌&&◌, eqb, ltb, leb, ◌≢◌, ◌⊎◌, List, [], ◌∷◌, length, sym, refl, ap, ◌∙◌, subst, inl, inr, arith}
 use Rattle.std.proofs.lemmas.Bool.Decides.{nat_tests}
-use Rattle.std.proofs.lemmas.Bool.{cases_lt, and_parts, or_cases, not-true, leb-true, ltb-true, eqb-true, eq-eqb, both_ways, cond_both, false≢true, cases_Bool, cond-true, cond-false, and_from}
-use Rattle.region_laws.specs.Runs.{Run, run, at, Apart, Ok, tidy, apart, reach, push, runs}
-use Rattle.region_laws.proofs.Unique.{at_in, at_left, at_right, at_before, ok_lower, unique}
+use Rattle.std.proofs.lemmas.Bool.{cases_lt, and_parts, eqb-true, eq-eqb, both_ways, cond_both, cases_Bool, cond-true, cond-false, and_from}
+use Rattle.region_laws.specs.Runs.{Run, run, at, Apart, Ok, reach, push, runs}
+use Rattle.region_laws.proofs.Unique.{at_right, unique}
 
 module _ {V : Type 0} (none : V) where
   -- a run ends at or before the last one

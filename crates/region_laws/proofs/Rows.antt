@@ -1,16 +1,14 @@
 -- The boxes of a banded list that have row y hold the row of its bands at y.
-use Rattle.std.proofs.Common.{◌≡◌, ℕ, zero, suc, ◌+◌, ◌-◌, ◌<◌, ◌≤◌, Bool, true, false, cond, not, ◌&&◌, ◌||◌, eqb, ltb, leb, ◌≢◌, ◌⊎◌, List, [], ◌∷◌, ◌++◌, length, get_or, take, set, sym, refl, ap, ◌∙◌, subst, inl, inr, append_assoc, arith}
+use Rattle.std.proofs.Common.{◌≡◌, ℕ, ◌<◌, ◌≤◌, Bool, true, false, ◌&&◌, ltb, leb, ◌⊎◌, List, [], ◌∷◌, ◌++◌, sym, refl, ap, ◌∙◌, subst, inl, inr, arith}
 use Rattle.std.proofs.lemmas.Bool.Decides.{nat_tests}
 use Rattle.std.proofs.lemmas.Bool.{cases_lt, cases_Bool, cond-true, cond-false, and_parts}
-use Rattle.region_laws.specs.Runs.{Run, run, at, tidy, reach, Ok}
-use Rattle.region_laws.specs.Bands.{Row, Band, boxes, bands, banded, same_row, same_bit, bit, good_row, row_boxes, farthest}
+use Rattle.region_laws.specs.Runs.{at, tidy, reach, Ok}
+use Rattle.region_laws.specs.Bands.{Row, Band, boxes, bands, banded, same_row, good_row, row_boxes, farthest}
 use Rattle.region_laws.specs.Spans.{spans}
-use Rattle.region_laws.specs.Boxes.{no_box}
 use Rattle.region_laws.specs.Spans.{row_at}
 use Rattle.region_laws.specs.declared.rect.Rect.{Rect}
-use Rattle.region_laws.proofs.Tidy.{tidy_before, Parts, parts, good_tidy, bands_ok, boxes_bands, row_at_ok}
-use Rattle.std.proofs.lemmas.List.{take_more, take_more_set, take_all, append-nil}
-use Rattle.region_laws.proofs.Unique.{at_in, at_left, at_right, at_before}
+use Rattle.region_laws.proofs.Tidy.{tidy_before, Parts, parts, good_tidy, boxes_bands, row_at_ok}
+use Rattle.region_laws.proofs.Unique.{at_in, at_left, at_right}
 use Rattle.region_laws.proofs.Extend.{spans-append}
 use Rattle.region_laws.proofs.Flat.{spans_row}
 

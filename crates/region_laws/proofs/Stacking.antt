@@ -1,12 +1,10 @@
 -- The steps by which a row is put under the boxes so far: lowered, compared, written box by box.
-use Rattle.std.proofs.Common.{◌≡◌, ℕ, zero, suc, ◌+◌, ◌-◌, ◌*◌, ◌<◌, ◌≤◌, max, Bool, true, false, cond, not, ◌&&◌, ◌||◌, eqb, ltb, leb, ◌≢◌, ◌⊎◌, List, [], ◌∷◌, ◌++◌, length, get_or, take, drop, set, replicate, sym, refl, ap, ◌∙◌, subst, inl, inr, append_assoc, add_assoc, arith}
-use Rattle.std.proofs.lemmas.Bool.Decides.{nat_tests}
-use Rattle.std.proofs.lemmas.Bool.{le-leb, cases_Bool, both_ways, cond-true, cond-false, eq-eqb, ne_eqb}
-use Rattle.std.proofs.lemmas.List.{take_more, take_more_set, drop_more, drop-set-lt, take_all, drop_all, append-nil, drop-take, length-take, length-drop, length-append, take-take, get_or-take, drop-drop, drop-replicate}
+use Rattle.std.proofs.Common.{◌≡◌, ℕ, suc, ◌+◌, ◌-◌, ◌<◌, ◌≤◌, Bool, true, false, ◌&&◌, eqb, leb, ◌≢◌, ◌⊎◌, List, [], ◌∷◌, ◌++◌, length, get_or, take, drop, set, replicate, sym, refl, ap, ◌∙◌, inl, inr, append_assoc, arith}
+use Rattle.std.proofs.lemmas.Bool.{le-leb, cases_Bool, cond-true, cond-false, eq-eqb, ne_eqb}
+use Rattle.std.proofs.lemmas.List.{take_more, take_more_set, drop_more, drop-set-lt, take_all, drop_all, drop-take, length-take, length-drop, length-append, take-take, get_or-take, drop-drop, drop-replicate}
 use Rattle.std.proofs.lemmas.Slice.{take-put_mid, drop-put_mid}
 use borrow.Rule.Slice.PartMut.{put_mid}
-use Rattle.region_laws.specs.Runs.{Run, run, push}
-use Rattle.region_laws.specs.Bands.{Row, Band, boxes, same_row, row_boxes}
+use Rattle.region_laws.specs.Bands.{Row, same_row, row_boxes}
 use Rattle.region_laws.specs.Spans.{spans}
 use Rattle.region_laws.specs.Boxes.{box, no_box}
 use Rattle.region_laws.specs.Stacked.{lowered, ends_at, goes_on, stacked, start_of_last}

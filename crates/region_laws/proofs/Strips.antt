@@ -1,15 +1,14 @@
 -- The boxes of a banded list that have row y stand side by side in it, and between two neighbouring edges the rows are
 -- equal.
-use Rattle.std.proofs.Common.{◌≡◌, ℕ, zero, suc, ◌+◌, ◌-◌, ◌<◌, ◌≤◌, Bool, true, false, cond, not, ◌&&◌, ◌||◌, eqb, ltb, leb, ◌≢◌, ◌⊎◌, List, [], ◌∷◌, ◌++◌, length, get_or, take, drop, sym, refl, ap, ◌∙◌, subst, inl, inr, arith}
+use Rattle.std.proofs.Common.{◌≡◌, ℕ, zero, suc, ◌+◌, ◌-◌, ◌<◌, ◌≤◌, true, false, ◌&&◌, ◌||◌, ltb, leb, ◌⊎◌, List, [], ◌∷◌, ◌++◌, length, get_or, take, drop, sym, refl, ap, ◌∙◌, subst, inl, inr, arith}
 use Rattle.std.proofs.lemmas.Bool.Decides.{nat_tests}
 use Rattle.std.proofs.lemmas.Bool.{cases_lt, cases_eq, cond-true, cond-false}
 use Rattle.std.proofs.lemmas.List.{take-append-drop, length-take, length-drop, get_or-take, get_or-drop, append-nil, drop-drop}
-use Rattle.region_laws.specs.Boxes.{no_box, inside}
+use Rattle.region_laws.specs.Boxes.{no_box}
 use Rattle.region_laws.specs.Bands.{covers, banded}
 use Rattle.region_laws.specs.Listed.{high}
 use Rattle.region_laws.specs.Spans.{row_at, Plain}
 use Rattle.region_laws.specs.declared.rect.Rect.{Rect}
-use Rattle.region_laws.specs.Rules.{Sound}
 use Rattle.region_laws.proofs.Pairs.{Before, banded_before, banded_sound}
 use Rattle.region_laws.proofs.Rows.{row_at-append}
 

@@ -1,11 +1,10 @@
 -- The sweep of a join: the boxes so far are the boxes of the runs of the union's rows so far.
-use Rattle.std.proofs.Common.{◌≡◌, ℕ, zero, suc, ◌+◌, ◌-◌, ◌<◌, ◌≤◌, max, Bool, true, false, cond, not, ◌&&◌, ◌||◌, eqb, ltb, leb, ◌≢◌, ◌⊎◌, List, [], ◌∷◌, ◌++◌, length, take, drop, sym, refl, ap, ◌∙◌, subst, inl, inr, arith}
-use Rattle.std.proofs.lemmas.Bool.{cases_lt, cases_Bool, cases_order, cond-true, cond-false, cond_both, lt-ltb, le-ltb, both_ways}
+use Rattle.std.proofs.Common.{◌≡◌, ℕ, zero, suc, ◌+◌, ◌<◌, ◌≤◌, max, true, false, cond, ◌&&◌, ◌||◌, eqb, ltb, ◌≢◌, ◌⊎◌, List, [], ◌∷◌, length, take, drop, sym, refl, ap, ◌∙◌, subst, inl, inr, arith}
+use Rattle.std.proofs.lemmas.Bool.{cases_lt, cases_Bool, cond-true, cond-false, cond_both, lt-ltb, le-ltb}
 use Rattle.std.proofs.lemmas.List.{length-append, length-take, length-drop}
-use Rattle.region_laws.specs.Boxes.{Places}
-use Rattle.region_laws.specs.Runs.{Run, run, at, Ok, push, runs, tidy}
-use Rattle.region_laws.specs.Bands.{Row, Band, covers, boxes, bands, banded, same_row, same_bit, good_row, row_boxes, farthest}
-use Rattle.region_laws.specs.Listed.{row_of, listed, wide, high}
+use Rattle.region_laws.specs.Runs.{run, at, Ok, push, runs, tidy}
+use Rattle.region_laws.specs.Bands.{Row, Band, covers, boxes, banded, same_row, same_bit, good_row, row_boxes}
+use Rattle.region_laws.specs.Listed.{row_of, wide, high}
 use Rattle.region_laws.specs.Joined.{either, union}
 use Rattle.region_laws.specs.Spans.{spans, row_at, Plain}
 use Rattle.region_laws.specs.Stacked.{lowered, goes_on, stacked, start_of_last}
@@ -17,7 +16,7 @@ use Rattle.region_laws.proofs.Exists.{runs_tidy, row_good}
 use Rattle.region_laws.proofs.Flat.{start_of, goes, push_on, push_under, goes_same}
 use Rattle.region_laws.proofs.Rows.{row_is}
 use Rattle.region_laws.proofs.Stacking.{length-lowered, stacked_on, stacked_under}
-use Rattle.region_laws.proofs.Pairs.{banded_wide, banded_high}
+use Rattle.region_laws.proofs.Pairs.{banded_wide}
 use Rattle.region_laws.proofs.Union.{covers_right}
 use Rattle.region_laws.proofs.Strips.{plain_covers}
 

@@ -1,12 +1,11 @@
 -- A banded list is the only one of its pixels.
-use Rattle.std.proofs.Common.{◌≡◌, ℕ, zero, suc, ◌+◌, ◌-◌, ◌*◌, ◌<◌, ◌≤◌, Bool, true, false, cond, not, ◌&&◌, ◌||◌, eqb, ltb, leb, ◌≢◌, ◌⊎◌, List, [], ◌∷◌, ◌++◌, sym, refl, ap, ◌∙◌, subst, inl, inr, arith}
+use Rattle.std.proofs.Common.{◌≡◌, ℕ, ◌<◌, ◌≤◌, Bool, true, false, not, ◌&&◌, ◌||◌, eqb, ltb, ◌≢◌, ◌⊎◌, List, [], ◌∷◌, ◌++◌, sym, refl, ap, ◌∙◌, subst, inl, inr, arith}
 use Rattle.std.proofs.lemmas.Bool.Decides.{nat_tests}
 use Rattle.std.proofs.lemmas.Bool.{cases_lt, and_parts, or_cases, not-true, leb-true, ltb-true, eqb-true, eq-eqb, both_ways, cond_both, false≢true, cases_Bool, cond-true, cond-false}
-use Rattle.region_laws.specs.Runs.{Run, run, at, Apart, Ok, tidy, apart, reach}
-use Rattle.region_laws.specs.Boxes.{box, inside}
+use Rattle.region_laws.specs.Runs.{Run, at, Apart, Ok, tidy, apart}
 use Rattle.region_laws.specs.Bands.{covers, Row, Band, same_bit, same_row, row_boxes, boxes, stack, bands, bit, good_row, banded}
 use Rattle.region_laws.specs.declared.rect.Rect.{Rect}
-use Rattle.region_laws.proofs.Unique.{at_in, at_left, at_right, at_before, ok_lower, unique}
+use Rattle.region_laws.proofs.Unique.{at_in, at_left, at_right, at_before, unique}
 
 module _ {V : Type 0} (same : V → V → Bool) (good : V → Bool) where
   pub record Parts (low : ℕ) (r : Run V) (rs : List (Run V)) : Type 0 where

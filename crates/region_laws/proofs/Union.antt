@@ -1,9 +1,8 @@
 -- The union's list is banded and covers just what either covers; hence the laws of the union.
-use Rattle.std.proofs.Common.{◌≡◌, ℕ, ◌<◌, ◌≤◌, max, Bool, true, false, cond, ◌&&◌, ◌||◌, ltb, leb, ◌⊎◌, List, [], ◌∷◌, sym, refl, ap, ◌∙◌, inl, inr, arith}
+use Rattle.std.proofs.Common.{◌≡◌, ℕ, ◌<◌, ◌≤◌, max, Bool, true, false, cond, ◌||◌, ltb, ◌⊎◌, List, [], ◌∷◌, refl, ◌∙◌, inl, inr, arith}
 use Rattle.std.proofs.lemmas.Bool.Decides.{nat_tests}
 use Rattle.std.proofs.lemmas.Bool.{cases_lt, cond-true, cond-false, lt-ltb, le-ltb}
-use Rattle.region_laws.specs.Boxes.{Places, inside}
-use Rattle.region_laws.specs.Bands.{covers, banded, farthest}
+use Rattle.region_laws.specs.Bands.{covers, banded}
 use Rattle.region_laws.specs.Listed.{listed, wide, high}
 use Rattle.region_laws.specs.Joined.{either, union}
 use Rattle.region_laws.specs.declared.rect.Rect.{Rect}

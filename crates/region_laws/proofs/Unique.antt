@@ -1,8 +1,8 @@
 -- Two lists of runs with the same values are one list.
-use Rattle.std.proofs.Common.{◌≡◌, ℕ, zero, suc, ◌+◌, ◌-◌, ◌*◌, ◌<◌, ◌≤◌, Bool, true, false, cond, not, ◌&&◌, ◌||◌, eqb, ltb, leb, ◌≢◌, ◌⊎◌, List, [], ◌∷◌, ◌++◌, sym, refl, ap, ◌∙◌, subst, inl, inr, arith}
+use Rattle.std.proofs.Common.{◌≡◌, ℕ, ◌<◌, ◌≤◌, ◌≢◌, ◌⊎◌, List, [], ◌∷◌, sym, refl, ◌∙◌, inl, inr, arith}
 use Rattle.std.proofs.lemmas.Bool.{cases_lt, cases_order}
 use Rattle.std.proofs.lemmas.Bool.Decides.{nat_tests}
-use Rattle.region_laws.specs.Runs.{Run, run, at, Apart, Ok}
+use Rattle.region_laws.specs.Runs.{Run, at, Apart, Ok}
 
 module _ {V : Type 0} (none : V) where
   pub at_in : (r : Run V) (rs : List (Run V)) (x : ℕ) → r.from ≤ x → x < r.to → at none (r ∷ rs) x ≡ r.what

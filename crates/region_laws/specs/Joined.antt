@@ -1,5 +1,5 @@
 -- The join of two regions: their union, or a stand-in where its list is too long.
-use Rattle.std.specs.Prelude.{ℕ, min, max, Bool, cond, ◌||◌, List, [], ◌∷◌, length, nat_le}
+use Rattle.std.specs.Prelude.{ℕ, min, max, cond, ◌||◌, List, [], ◌∷◌, length, nat_le}
 use Rattle.region_laws.specs.Boxes.{Places, box, no_box, full}
 use Rattle.region_laws.specs.Bands.{covers}
 use Rattle.region_laws.specs.Listed.{listed, wide, high}

@@ -1,5 +1,5 @@
 -- What is promised of regions above their definitions.
-use Rattle.std.specs.Prelude.{◌≡◌, ℕ, ◌<◌, ◌≤◌, Bool, true, false, cond, ◌&&◌, List, [], length, nat_lt}
+use Rattle.std.specs.Prelude.{◌≡◌, ℕ, ◌<◌, ◌≤◌, true, false, cond, List, [], length, nat_lt}
 use Rattle.region_laws.specs.Boxes.{Places, inside, Within}
 use Rattle.region_laws.specs.Bands.{covers, banded, farthest}
 use Rattle.region_laws.specs.Listed.{listed, wide, high}

@@ -1,3 +1,5 @@
+#![tactic(auto)]
+
 mod rect;
 
 pub use rect::Rect;

@@ -1,7 +1,6 @@
 -- The text that answers a line, with its line feed (10).
 use Rattle.std.specs.Prelude.{ℕ, ◌+◌, ◌/◌, ◌%◌, cond, List, [], ◌∷◌, ◌++◌, codes, decimal, nat_lt}
 use Rattle.std.specs.Fmt.{signed_decimal}
-use Rattle.reference.specs.declared.answer.Shown as answer
 use Rattle.replies.specs.declared.refused.Layer.{Layer}
 use Rattle.replies.specs.declared.refused.Layer.TheVariants.{Script, Panel, Shelf}
 use Rattle.replies.specs.declared.refused.Refused.{Refused}

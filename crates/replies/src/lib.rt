@@ -1,4 +1,6 @@
 // What is answered to a line of the frame script, and how it is written.
+#![tactic(auto)]
+
 mod refused;
 mod reply;
 mod row;

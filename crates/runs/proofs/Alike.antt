@@ -1,18 +1,17 @@
 -- Two runs of the same calls agree.
-use Rattle.std.proofs.Common.{◌≡◌, ℕ, suc, ◌≤◌, min, Bool, true, false, List, [], ◌∷◌, ◌++◌, map, reverse, length, take, Ok, Err, Result, sym, refl, ap, ◌∙◌, subst, arith, MatchResult}
+use Rattle.std.proofs.Common.{◌≡◌, ℕ, List, [], ◌∷◌, map, reverse, take, Ok, Err, Result, sym, refl, ap, ◌∙◌, arith, MatchResult}
 use mathlib.Core.List.{reverse-reverse}
 use Rattle.std.proofs.lemmas.List.{take-take}
-use Rattle.surface.specs.Told.{Told}
 use Rattle.reference.specs.declared.call.Call.{Call}
 use Rattle.reference.specs.declared.answer.Answer.{Answer}
 use Rattle.reference.specs.Refusals.{open_refusal}
 use Rattle.reference.specs.History.{Event, World}
-use Rattle.reference.specs.Agreement.{TellSame, Both, Alike, Agree, SameWorld}
+use Rattle.reference.specs.Agreement.{Both, Alike}
 use Rattle.reference_laws.proofs.Agreeing.{frames_stay_alike}
 use Rattle.panel.specs.declared.panel.Panel.{Panel}
 use Rattle.panel.specs.declared.panel.Unopened.{Unopened}
 use Rattle.panel.specs.Calls.{Meaning}
-use Rattle.runs.specs.Runs.{calls_of, world_from, Lived, NeverOpened, TellSameThroughout, Agreed, TwoLived, OpenAlike}
+use Rattle.runs.specs.Runs.{world_from, Lived, NeverOpened, TellSameThroughout, TwoLived, OpenAlike}
 
 -- the calls of a part of the calls
 pub lived_part : {P S C : Type 0} (m : Meaning P S C) (s : S) (c : C) (base : P) (calls part : List Call) (answers : List Answer) (n k : ℕ) (p : Panel P S C) → part ≡ take n calls → k ≡ n → Lived m s c base part answers k p → Lived m s c base calls answers n p

@@ -1,15 +1,14 @@
 -- From the opening to the end.
-use Rattle.std.proofs.Common.{◌≡◌, ℕ, List, [], ◌∷◌, ◌++◌, map, sym, refl, ap, ◌∙◌, subst, append-nil}
+use Rattle.std.proofs.Common.{◌≡◌, ℕ, List, [], ap, ◌∙◌, subst, append-nil}
 use Rattle.region.specs.declared.display.Display.{Display}
-use Rattle.chain.specs.Screens.{Screens}
 use Rattle.reference.specs.declared.call.Call.{Call}
 use Rattle.reference.specs.declared.answer.Answer.{Answer}
-use Rattle.reference.specs.History.{Event, World}
+use Rattle.reference.specs.History.{Event}
 use Rattle.reference.specs.Kept.{Kept}
 use Rattle.scene.specs.States.{state_of}
 use Rattle.panel.specs.declared.panel.Panel.{Panel}
-use Rattle.panel.specs.Calls.{Meaning, world_of, KeptBy, Fixed, Opened}
-use Rattle.runs.specs.Runs.{Made, Runs, world_from, Lived}
+use Rattle.panel.specs.Calls.{Meaning, KeptBy, Fixed, Opened}
+use Rattle.runs.specs.Runs.{Runs, world_from, Lived}
 
 module _ {P S C : Type 0} (m : Meaning P S C) where
   pub lives : (s : S) (c : C) (base : P) (p q : Panel P S C) (calls : List Call) (answers : List Answer) (n : ℕ) → Opened m s c base p → Runs m p calls answers n q → Fixed m p q → Lived m s c base calls answers n q

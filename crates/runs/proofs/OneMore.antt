@@ -1,15 +1,14 @@
 -- A run makes one call more.
-use Rattle.std.proofs.Common.{◌≡◌, ℕ, zero, suc, ◌+◌, ◌<◌, ◌≤◌, min, List, [], ◌∷◌, ◌++◌, map, reverse, length, get_or, take, drop, set, sym, refl, ap, ◌∙◌, subst, add-one, arith}
+use Rattle.std.proofs.Common.{◌≡◌, ℕ, zero, suc, ◌+◌, ◌<◌, List, [], ◌∷◌, ◌++◌, map, length, get_or, drop, set, sym, refl, ap, ◌∙◌, add-one, arith}
 use mathlib.Core.List.{reverse-cons}
 use Rattle.std.proofs.lemmas.List.{take_more, take_more_set, drop-set-lt}
-use Rattle.chain.specs.Screens.{Screens}
 use Rattle.reference.specs.declared.call.Call.{Call}
 use Rattle.reference.specs.declared.answer.Answer.{Answer}
 use Rattle.reference.specs.History.{Event}
 use Rattle.reference.specs.Kept.{event}
 use Rattle.panel.specs.declared.panel.Panel.{Panel}
-use Rattle.panel.specs.Calls.{Meaning, KeptBy, Keeps, Fixed}
-use Rattle.runs.specs.Runs.{calls_of, answers_of, Made, Runs}
+use Rattle.panel.specs.Calls.{Meaning, Keeps, Fixed}
+use Rattle.runs.specs.Runs.{Runs}
 
 -- what comes after a write stays
 drop_later : {X : Type 0} (xs ys : List X) (i : ℕ) → drop i xs ≡ drop i ys → drop (suc i) xs ≡ drop (suc i) ys

@@ -1,5 +1,5 @@
 -- What one call does to a panel, whatever came before it.
-use Rattle.std.specs.Prelude.{List, ℤ, Ok, Err}
+use Rattle.std.specs.Prelude.{ℤ, Ok, Err}
 use Rattle.surface.specs.declared.order.Order.{Order}
 use Rattle.reference.specs.declared.call.Call.{Call}
 use Rattle.reference.specs.declared.call.Call.TheVariants.{Place, Move, Lift, Remove, Tell, Show}

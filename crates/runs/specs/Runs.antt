@@ -1,5 +1,5 @@
 -- What a whole run of a panel promises.
-use Rattle.std.specs.Prelude.{◌≡◌, ℕ, min, List, [], ◌∷◌, ◌++◌, map, reverse, length, take, drop, None}
+use Rattle.std.specs.Prelude.{◌≡◌, ℕ, List, ◌++◌, map, reverse, take, None}
 use Rattle.chain.specs.Screens.{Screens}
 use Rattle.reference.specs.declared.call.Call.{Call}
 use Rattle.reference.specs.declared.answer.Answer.{Answer}

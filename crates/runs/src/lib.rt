@@ -1,4 +1,6 @@
 // Whole runs of a panel: from the opening over any sequence of calls.
+#![tactic(auto)]
+
 mod agreeing;
 mod running;
 mod stepping;

@@ -1,5 +1,7 @@
 // What a panel keeps of its picture: the stack of panes, the region that is damaged since the last show, and the
 // damages of the last shows.
+#![tactic(auto)]
+
 mod boxes;
 mod calls;
 mod damage;

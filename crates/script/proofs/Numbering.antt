@@ -1,9 +1,9 @@
 -- The numbers of a line, read one after another.
-use Rattle.std.proofs.Common.{◌≡◌, ℕ, suc, ◌+◌, ◌-◌, ◌<◌, ◌≤◌, List, [], ◌∷◌, ◌++◌, length, take, set, ℤ, Ok, Err, Result, sym, refl, ap, ◌∙◌, append_assoc, append-nil, arith}
+use Rattle.std.proofs.Common.{◌≡◌, ℕ, suc, ◌+◌, ◌-◌, ◌<◌, List, [], ◌∷◌, ◌++◌, length, take, set, ℤ, Ok, Err, Result, sym, refl, ap, ◌∙◌, append_assoc, append-nil, arith}
 use Rattle.std.proofs.lemmas.List.{take_more_set}
 use Rattle.replies.specs.declared.refused.Refused.{Refused}
 use Rattle.script.specs.Tokens.{State, token, step}
-use Rattle.script.specs.Records.{then, as_number, as_end, numbers_of, first_of}
+use Rattle.script.specs.Records.{then, as_number, as_end, numbers_of}
 
 -- numbers, and those after them
 abbrev pub prefixed : List ℤ → Result (List ℤ) Refused → Result (List ℤ) Refused

@@ -1,5 +1,5 @@
 -- The settings that an open gives.
-use Rattle.std.specs.Prelude.{◌≡◌, ℕ, ℤ, pos, Some, None, Ok, Err, Option, Result}
+use Rattle.std.specs.Prelude.{◌≡◌, ℕ, pos, Some, None, Ok, Err, Result}
 use Rattle.script.specs.declared.record.Opening.{Opening}
 use Rattle.script.specs.declared.settings.Settings.{Settings}
 use Rattle.replies.specs.declared.refused.Refused.{Refused}

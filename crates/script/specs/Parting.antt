@@ -1,5 +1,5 @@
 -- A text is parted at each byte of one kind: a script's lines at line feeds (10), a line's fields at tabs (9).
-use Rattle.std.specs.Prelude.{ℕ, ◌+◌, Bool, cond, not, List, [], ◌∷◌, ◌++◌, take, Some, None, Option, ◌==◌}
+use Rattle.std.specs.Prelude.{ℕ, Bool, cond, not, List, [], ◌∷◌, take, Some, None, Option, ◌==◌}
 use Rattle.std.specs.List.{prefix_len}
 
 -- a byte that does not part

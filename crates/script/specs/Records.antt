@@ -1,8 +1,6 @@
 -- What a line of a script says.
 use Rattle.std.specs.Prelude.{ℕ, zero, suc, Bool, cond, ◌||◌, List, [], ◌∷◌, take, ℤ, pos, Some, None, Ok, Err, Option, Result, int_lt, slice_index_or}
 use Rattle.std.specs.Option.{ok_or}
-use Rattle.surface.specs.declared.order.Order.{Order}
-use Rattle.reference.specs.declared.call.Call.{Call}
 use Rattle.reference.specs.declared.call.Call.TheVariants.{Place, Move, Lift, Remove, Tell, Show}
 use Rattle.script.specs.declared.verb.Verb.{Verb}
 use Rattle.script.specs.declared.verb.Verb.TheVariants as verb
@@ -10,7 +8,7 @@ use Rattle.script.specs.declared.record.Opening.{Opening}
 use Rattle.script.specs.declared.record.Record.{Record}
 use Rattle.script.specs.declared.record.Record.TheVariants as the_record
 use Rattle.replies.specs.declared.refused.Refused.{Refused}
-use Rattle.replies.specs.declared.refused.Refused.TheVariants.{NotARecord, OutOfTurn}
+use Rattle.replies.specs.declared.refused.Refused.TheVariants.{NotARecord}
 use Rattle.script.specs.Tokens.{Said, word, number, end, State, token, step, start}
 use Rattle.script.specs.Numbers.{number_of}
 use Rattle.script.specs.Verbs.{verb_of, count_of}

@@ -1,5 +1,5 @@
 -- What a lexer gives, token after token.
-use Rattle.std.specs.Prelude.{ℕ, ◌+◌, ◌-◌, ◌^◌, min, cond, List, [], ◌∷◌, Some, None, Option, ◌==◌}
+use Rattle.std.specs.Prelude.{ℕ, ◌+◌, ◌-◌, ◌^◌, min, cond, List, [], ◌∷◌, ◌==◌}
 use Rattle.std.specs.Option.{option_map}
 use Rattle.script.specs.declared.token.Token.{Token}
 use Rattle.script.specs.declared.token.Token.TheVariants.{Word, Number, End}

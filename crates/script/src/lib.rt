@@ -1,4 +1,6 @@
 // The frame script: lines, fields and records. What is answered is of the crate `replies`.
+#![tactic(auto)]
+
 mod lexer;
 mod lines;
 mod number;

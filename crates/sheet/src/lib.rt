@@ -1,3 +1,5 @@
+#![tactic(auto)]
+
 mod scan;
 mod sheet;
 mod turn;

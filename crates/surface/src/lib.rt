@@ -1,3 +1,5 @@
+#![tactic(auto)]
+
 mod order;
 mod pair;
 mod shelf;

@@ -1,5 +1,5 @@
 -- Joins of regions whose lists are known.
-use Rattle.std.proofs.Common.{◌≡◌, ℕ, zero, suc, ◌+◌, ◌*◌, List, [], ◌∷◌, sym, refl, ap, ◌∙◌, add-one}
+use Rattle.std.proofs.Common.{◌≡◌, ℕ, zero, suc, ◌+◌, ◌*◌, List, [], refl, ap, ◌∙◌, add-one}
 use Rattle.region_laws.specs.Boxes.{box}
 use Rattle.region_laws.specs.Joined.{joined, single}
 use Rattle.region_laws.specs.Examples.{dots}

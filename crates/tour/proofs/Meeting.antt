@@ -1,5 +1,5 @@
 -- The ages that shows meet, as a list.
-use Rattle.std.proofs.Common.{◌≡◌, ℕ, zero, suc, ◌<◌, List, [], ◌∷◌, length, get_or, sym, refl, ap, ◌∙◌, arith}
+use Rattle.std.proofs.Common.{◌≡◌, ℕ, suc, List, [], ◌∷◌, length, refl, ap, ◌∙◌, arith}
 use Rattle.chain.specs.Screens.{Screens, back_age}
 use Rattle.chains.specs.Picked.{pickings}
 use Rattle.chains.specs.Met.{Met, meeting}

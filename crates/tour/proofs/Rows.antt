@@ -1,5 +1,5 @@
 -- A row laid over another, one pixel more at a time.
-use Rattle.std.proofs.Common.{◌≡◌, ℕ, zero, suc, ◌+◌, ◌<◌, ◌≤◌, min, List, [], ◌∷◌, length, get_or, take, set, sym, refl, ap, ◌∙◌, add-one, arith}
+use Rattle.std.proofs.Common.{◌≡◌, ℕ, zero, suc, ◌+◌, ◌<◌, ◌≤◌, min, List, [], ◌∷◌, length, get_or, take, set, refl, ap, ◌∙◌, add-one, arith}
 use Rattle.tour.specs.Rows.{laid_row}
 
 module _ {P : Type 0} (lay : P → P → P) where

@@ -1,4 +1,4 @@
-use Rattle.std.proofs.Common.{arith, rules}
+use Rattle.std.proofs.Common.{arith}
 use Rattle.region_laws.proofs.Counts.{area_left, area_done, area_bound}
 use Rattle.region_laws.proofs.Pairs.{banded_sound}
 use Rattle.region.proofs.asking.total.Goals as goal

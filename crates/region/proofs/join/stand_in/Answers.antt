@@ -1,4 +1,4 @@
-use Rattle.std.proofs.Common.{◌≡◌, sym, ap, ◌∙◌, rules}
+use Rattle.std.proofs.Common.{◌≡◌, sym, ap, ◌∙◌}
 use Rattle.region_laws.specs.Boxes.{no_box}
 use Rattle.region_laws.specs.Joined.{cover_from, single}
 use Rattle.region.specs.Lists.{list_of}

@@ -1,4 +1,4 @@
-use Rattle.std.proofs.Common.{arith, rules}
+use Rattle.std.proofs.Common.{arith}
 use Rattle.region_laws.proofs.Stacking.{lowering_more, lowering_all}
 use Rattle.region.proofs.stacking.lower.Goals as goal
 

@@ -1,4 +1,4 @@
-use Rattle.std.proofs.Common.{sym, ◌∙◌, arith, rules}
+use Rattle.std.proofs.Common.{sym, ◌∙◌, arith}
 use Rattle.std.proofs.lemmas.Bool.Decides.{nat_tests}
 use Rattle.region_laws.proofs.Stacking.{same_more, same_all, same_length}
 use Rattle.region.proofs.stacking.same_spans.Goals as goal

@@ -1,4 +1,4 @@
-use Rattle.std.proofs.Common.{arith, rules}
+use Rattle.std.proofs.Common.{arith}
 use Rattle.region_laws.proofs.Strips.{edge_none, edge_bottom, edge_top}
 use Rattle.region.proofs.sweep.next_edge.Goals as goal
 

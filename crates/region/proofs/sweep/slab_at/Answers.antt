@@ -1,4 +1,3 @@
-use Rattle.std.proofs.Common.{arith, rules}
 use Rattle.region_laws.proofs.Strips.{strip_row}
 use Rattle.region.proofs.sweep.slab_at.Goals as goal
 

@@ -1,13 +1,10 @@
-use Rattle.std.proofs.Common.{◌≡◌, ℕ, ◌-◌, ◌<◌, ◌≤◌, max, length, get_or, take, drop, sym, refl, ap, ◌∙◌, arith, rules}
+use Rattle.std.proofs.Common.{◌-◌, take, drop, sym, ◌∙◌, arith}
 use Rattle.std.proofs.lemmas.Bool.{cond-true, leb-false}
 use Rattle.std.proofs.lemmas.List.{length-take, length-drop}
-use Rattle.region_laws.specs.Boxes.{no_box}
-use Rattle.region_laws.specs.Listed.{high}
-use Rattle.region_laws.specs.Stacked.{stacked, start_of_last}
 use Rattle.region.specs.Making.{pile_of, strip_of}
 use Rattle.region_laws.proofs.Rows.{row_fine}
 use Rattle.region_laws.proofs.Strips.{plain_less}
-use Rattle.region_laws.proofs.Swept.{Swept, swept_turn, swept_at, swept_all, swept_full}
+use Rattle.region_laws.proofs.Swept.{swept_turn, swept_at, swept_full}
 use Rattle.region.proofs.sweep.unite.Goals as goal
 
 pub merge-requires : goal.merge-requires

@@ -1,5 +1,4 @@
-use Rattle.std.proofs.Common.{◌≡◌, ℕ, min, List, length, drop, pos, refl, subst, arith}
-use Rattle.reference.specs.declared.answer.Answer.{Answer}
+use Rattle.std.proofs.Common.{◌≡◌, ℕ, min, length, drop, refl, subst, arith}
 use Rattle.panel.specs.Calls.{meaning}
 use Rattle.runs.specs.Runs.{Runs}
 use Rattle.runs.proofs.OneMore.{runs_none, runs_more, others_more, fixed_none, fixed_more}

@@ -1,7 +1,7 @@
-use Rattle.std.proofs.Common.{◌≡◌, ℕ, ◌+◌, ◌-◌, ◌<◌, length, take, set, ℤ, sym, refl, ap, ◌∙◌, subst, arith, length-set, w32, SFits, to_z, of_z, rules}
+use Rattle.std.proofs.Common.{◌≡◌, ◌+◌, ◌-◌, ◌<◌, length, take, set, ap, ◌∙◌, arith, length-set, w32, SFits, to_z, of_z, rules}
 use Rattle.std.proofs.lemmas.Result.{err_from_is_err_and}
 use Rattle.std.proofs.lemmas.Int.{to_z-of_z}
-use Rattle.script.specs.Records.{first_of, numbers_of}
+use Rattle.script.specs.Records.{numbers_of}
 use Rattle.script.specs.Tokens.{left}
 use Rattle.script.specs.Verbs.{count_of}
 use Rattle.script.proofs.Numbering.{prefixed, number_more, number_refused, numbers_end}

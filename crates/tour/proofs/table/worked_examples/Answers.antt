@@ -2,7 +2,7 @@ use Rattle.std.proofs.Common.{List, refl, ap, ◌∙◌}
 use Rattle.region_laws.specs.Counted.{area}
 use Rattle.region_laws.specs.declared.rect.Rect.{Rect}
 use Rattle.region_laws.proofs.Examples.{overlap_is, under_is, crowded_is, lengthened_is}
-use Rattle.tour.specs.Table.{Worked, Ran}
+use Rattle.tour.specs.Table.{Worked}
 use Rattle.tour.proofs.table.worked_examples.Goals as goal
 
 worked_is : Worked

@@ -1,4 +1,4 @@
-use Rattle.std.proofs.Common.{◌∙◌, arith, length-set}
+use Rattle.std.proofs.Common.{arith, length-set}
 use Rattle.reference.specs.Stack.{no_pane}
 use Rattle.scene.specs.States.{state_of}
 use Rattle.panel.specs.Sights.{sight}

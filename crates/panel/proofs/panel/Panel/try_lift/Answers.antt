@@ -1,8 +1,7 @@
-use Rattle.std.proofs.Common.{◌≡◌, ℤ, Ok, Err, Option, ap, ◌∙◌, arith, w32, to_z, of_z}
+use Rattle.std.proofs.Common.{Ok, Err, ap, ◌∙◌, w32, to_z, of_z}
 use Rattle.std.proofs.lemmas.Int.{to_z-of_z}
 use Rattle.reference.specs.declared.call.Call.TheVariants.{Lift}
-use Rattle.reference.specs.declared.refusal.Refusal.{Refusal}
-use Rattle.reference.specs.Refusals.{refusal, natural}
+use Rattle.reference.specs.Refusals.{natural}
 use Rattle.reference_laws.proofs.Calls as calls
 use Rattle.scene.specs.States.{state_of}
 use Rattle.panel.specs.Calls.{meaning}

@@ -1,8 +1,6 @@
-use Rattle.std.proofs.Common.{◌≡◌, ℤ, Ok, Err, Option, arith, w32, to_z, of_z}
+use Rattle.std.proofs.Common.{Ok, Err, w32, to_z, of_z}
 use Rattle.std.proofs.lemmas.Int.{to_z-of_z}
 use Rattle.reference.specs.declared.call.Call.TheVariants.{Place}
-use Rattle.reference.specs.declared.refusal.Refusal.{Refusal}
-use Rattle.reference.specs.Refusals.{refusal}
 use Rattle.reference_laws.proofs.Calls as calls
 use Rattle.scene.specs.States.{state_of}
 use Rattle.panel.specs.Calls.{meaning}

@@ -1,4 +1,4 @@
-use Rattle.std.proofs.Common.{◌≡◌, sym, ◌∙◌}
+use Rattle.std.proofs.Common.{sym, ◌∙◌}
 use Rattle.region.proofs.Edges.{clip_some, clip_none}
 use Rattle.region.proofs.display.Display.cut.Goals as goal
 

@@ -1,4 +1,4 @@
-use Rattle.std.proofs.Common.{◌≡◌, sym, ap, ◌∙◌, rules}
+use Rattle.std.proofs.Common.{◌≡◌, ap, ◌∙◌}
 use Rattle.region_laws.specs.Bands.{covers}
 use Rattle.region_laws.specs.Joined.{single}
 use Rattle.region.specs.Lists.{list_of}

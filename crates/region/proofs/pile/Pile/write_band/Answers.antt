@@ -1,4 +1,4 @@
-use Rattle.std.proofs.Common.{◌∙◌, append-nil, arith, rules}
+use Rattle.std.proofs.Common.{◌∙◌, arith, rules}
 use Rattle.region.specs.Making.{pile_of}
 use Rattle.region_laws.proofs.Stacking.{band_more}
 use Rattle.region.proofs.pile.Pile.write_band.Goals as goal

@@ -1,5 +1,5 @@
-use Rattle.std.proofs.Common.{arith, rules}
-use Rattle.std.proofs.lemmas.List.{length-take, places}
+use Rattle.std.proofs.Common.{rules}
+use Rattle.std.proofs.lemmas.List.{places}
 use Rattle.region.specs.Lists.{list_of}
 use Rattle.region_laws.proofs.Counts.{stays_in, each_once}
 use Rattle.region_laws.proofs.FromRules.{banding}

@@ -1,4 +1,4 @@
-use Rattle.std.proofs.Common.{◌≡◌, true, sym, ap, ◌∙◌, subst, rules}
+use Rattle.std.proofs.Common.{◌≡◌, true, sym, ap, ◌∙◌}
 use Rattle.region_laws.specs.Bands.{covers}
 use Rattle.region.specs.Lists.{list_of}
 use Rattle.region_laws.proofs.Laws.{one_list, every_set}

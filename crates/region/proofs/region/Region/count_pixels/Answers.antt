@@ -1,4 +1,4 @@
-use Rattle.std.proofs.Common.{◌≡◌, sym, ap, ◌∙◌, subst, rules}
+use Rattle.std.proofs.Common.{ap, ◌∙◌}
 use Rattle.region_laws.specs.Counted.{area}
 use Rattle.region.specs.Lists.{list_of}
 use Rattle.region_laws.proofs.Counts.{counts}

@@ -1,4 +1,4 @@
-use Rattle.std.proofs.Common.{◌<◌, ◌≤◌, length, inl, inr, arith, rules}
+use Rattle.std.proofs.Common.{inr, arith, rules}
 use Rattle.region_laws.specs.Boxes.{box}
 use Rattle.region_laws.proofs.Extend.{add_first, add_behind, add_longer, add_held}
 use Rattle.region.proofs.strip.Strip.add.Goals as goal

@@ -1,7 +1,7 @@
-use Rattle.std.proofs.Common.{arith, rules}
+use Rattle.std.proofs.Common.{arith}
 use Rattle.region_laws.specs.Spans.{First}
 use Rattle.region.specs.Making.{strip_of}
-use Rattle.region_laws.proofs.Woven.{Woven, woven_left, woven_right, woven_all}
+use Rattle.region_laws.proofs.Woven.{woven_left, woven_right, woven_all}
 use Rattle.region.proofs.strip.Strip.merge.Goals as goal
 
 pub loop-i-preserved-then-takes_first : goal.loop-i-preserved-then-takes_first
