@@ -2,9 +2,9 @@
 
 // The worked examples, run on the real code, and frames compared with a full repainting.
 #[cfg(test)]
-mod chains;
+mod chain_kinds;
 #[cfg(test)]
-mod panel;
+mod panels;
 #[cfg(test)]
 mod pixels;
 #[cfg(test)]

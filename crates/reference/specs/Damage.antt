@@ -1,6 +1,6 @@
 -- What a show must repaint.
 use Rattle.std.specs.Prelude.{◌≡◌, ℕ, ◌-◌, Bool, true, cond, ◌&&◌, List, [], ◌∷◌, take, fold, nat_le}
-use Rattle.std.specs.List.{AllByRecursion as All}
+use Rattle.std.specs.List.{AllByRecursion}
 use Rattle.region_laws.specs.Boxes.{box, inside, Within}
 use Rattle.region_laws.specs.Bands.{banded, covers}
 use Rattle.region_laws.specs.Joined.{joined}
@@ -58,4 +58,4 @@ pub record OnDisplay (w h : ℕ) (r : List Rect) : Type 0 where
 pub record Orderly (w h : ℕ) (st : State) : Type 0 where
   pub stack : Once st.stack
   pub pending : OnDisplay w h st.pending
-  pub past : All (OnDisplay w h) st.past
+  pub past : AllByRecursion (OnDisplay w h) st.past

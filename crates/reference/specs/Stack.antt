@@ -1,7 +1,7 @@
 -- The stack of panes, bottom first.
 use Rattle.std.specs.Prelude.{◌≡◌, ℕ, suc, false, cond, List, [], ◌∷◌, ◌++◌, ℤ, pos, Some, None, Option, ◌==◌, slice_index_or, slice_set}
 use Rattle.std.specs.Option.{option_map}
-use Rattle.std.specs.List.{insert, remove, AllByRecursion as All}
+use Rattle.std.specs.List.{insert, remove, AllByRecursion}
 use Rattle.reference.specs.declared.pane.Pane.{Pane}
 
 abbrev pub pane : ℕ → ℤ → ℤ → Pane
@@ -30,7 +30,7 @@ lifted i n ps = insert (remove ps i) n (slice_index_or ps i no_pane)
 
 -- no pane of surface k
 abbrev pub Without : ℕ → List Pane → Type 0
-Without k ps = All (λ p. (p.surface == k) ≡ false) ps
+Without k ps = AllByRecursion (λ p. (p.surface == k) ≡ false) ps
 
 -- no surface twice
 abbrev pub Once : List Pane → Type 0

@@ -1,6 +1,6 @@
 -- What each call changes, and that it notes it.
 use Rattle.std.proofs.Common.{◌≡◌, ℕ, zero, suc, ◌<◌, ◌≤◌, Bool, true, false, eqb, ltb, List, [], ◌∷◌, length, get_or, Some, None, Option, sym, refl, ◌∙◌, subst, arith}
-use Rattle.std.specs.List.{remove, AllByRecursion as All}
+use Rattle.std.specs.List.{remove, AllByRecursion}
 use Rattle.std.proofs.lemmas.Bool.{and_parts, ltb-true}
 use Rattle.region_laws.specs.Bands.{covers}
 use Rattle.region_laws.specs.Joined.{joined}
@@ -26,12 +26,12 @@ pub record Changes {P : Type 0} (s : Screens P) (lay : P → P → P) (base : P)
   pub noted : Noted s (picture lay t base st.stack) st (picture lay u base st'.stack) st'
 
 -- all but one element, and that one
-all_removed : {X : Type 0} (Q : X → Type 0) (z : X) (xs : List X) (i : ℕ) → i < length xs → Q (get_or xs i z) → All Q (remove xs i) → All Q xs
+all_removed : {X : Type 0} (Q : X → Type 0) (z : X) (xs : List X) (i : ℕ) → i < length xs → Q (get_or xs i z) → AllByRecursion Q (remove xs i) → AllByRecursion Q xs
 all_removed Q z [] i h q a = tt
 all_removed Q z (x ∷ xs) zero h q a = (q, a)
 all_removed Q z (x ∷ xs) (suc i) h q a = (a.0, all_removed Q z xs i (omega arith) q a.1)
 
-all_mapped : {X : Type 0} (Q R : X → Type 0) → ((x : X) → Q x → R x) → (xs : List X) → All Q xs → All R xs
+all_mapped : {X : Type 0} (Q R : X → Type 0) → ((x : X) → Q x → R x) → (xs : List X) → AllByRecursion Q xs → AllByRecursion R xs
 all_mapped Q R f [] a = tt
 all_mapped Q R f (x ∷ xs) a = (f x a.0, all_mapped Q R f xs a.1)
 

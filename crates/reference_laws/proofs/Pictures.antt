@@ -1,6 +1,6 @@
 -- Where a call leaves the whole picture as it was.
 use Rattle.std.proofs.Common.{◌≡◌, ℕ, zero, suc, ◌<◌, Bool, false, ◌&&◌, eqb, List, [], ◌∷◌, ◌++◌, length, get_or, set, is_some, Some, None, fold, Option, sym, refl, ap, ◌∙◌, arith}
-use Rattle.std.specs.List.{insert, remove, AllByRecursion as All}
+use Rattle.std.specs.List.{insert, remove, AllByRecursion}
 use Rattle.std.proofs.lemmas.Bool.Decides.{nat_tests}
 use Rattle.std.proofs.lemmas.Bool.{and_left, and_right}
 use Rattle.region_laws.specs.Boxes.{inside}
@@ -60,7 +60,7 @@ module _ {P : Type 0} (lay : P → P → P) (t : Told P) (base : P) (x y : ℕ) 
   picture_placed ps q e = fold_placed (λ d p. laid_over lay d (pane_at t x y p)) no_pane base ps q (clear q e)
 
 -- the same panes over two shelves that have the same pixels at the place
-pub picture_told : {P : Type 0} (lay : P → P → P) (t u : Told P) (x y : ℕ) (base : P) (ps : List Pane) → All (λ p. pane_at u x y p ≡ pane_at t x y p) ps → picture lay u base ps x y ≡ picture lay t base ps x y
+pub picture_told : {P : Type 0} (lay : P → P → P) (t u : Told P) (x y : ℕ) (base : P) (ps : List Pane) → AllByRecursion (λ p. pane_at u x y p ≡ pane_at t x y p) ps → picture lay u base ps x y ≡ picture lay t base ps x y
 picture_told lay t u x y base [] h = refl
 picture_told lay t u x y base (p ∷ ps) h =
     picture_told lay t u x y (laid_over lay base (pane_at u x y p)) ps h.1 ∙ ap (λ o. picture lay t (laid_over lay base o) ps x y) h.0

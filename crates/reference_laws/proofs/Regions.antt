@@ -1,6 +1,6 @@
 -- The regions that the reference keeps and states.
 use Rattle.std.proofs.Common.{◌≡◌, ℕ, zero, suc, ◌-◌, ◌≤◌, Bool, true, false, ◌||◌, ltb, ◌⊎◌, List, [], ◌∷◌, take, ℤ, pos, negsuc, fold, sym, refl, ap, ◌∙◌, subst, inl, inr, ⊎_elim, arith}
-use Rattle.std.specs.List.{AllByRecursion as All}
+use Rattle.std.specs.List.{AllByRecursion}
 use Rattle.std.proofs.lemmas.Bool.Decides.{nat_tests}
 use Rattle.std.proofs.lemmas.Bool.{cases_Bool, or_parts, or_from, cond-true, cond-false, and_parts, ltb-true}
 use Rattle.region_laws.specs.Boxes.{box, inside, full}
@@ -65,13 +65,13 @@ clipped_on w h b i j = go (cases_Bool (full (held_box w h b)))
     go (inr e) = subst (OnDisplay w h) (sym (cond-false (full (held_box w h b)) (held_box w h b ∷ []) [] e)) (empty_on w h)
 
 -- the stated region is one of the display
-pub folded_on : (w h : ℕ) (n : ℕ) (r : List Rect) (rs : List (List Rect)) → OnDisplay w h r → All (OnDisplay w h) rs → OnDisplay w h (fold joined r (take n rs))
+pub folded_on : (w h : ℕ) (n : ℕ) (r : List Rect) (rs : List (List Rect)) → OnDisplay w h r → AllByRecursion (OnDisplay w h) rs → OnDisplay w h (fold joined r (take n rs))
 folded_on w h zero r rs p q = p
 folded_on w h (suc n) r [] p q = p
 folded_on w h (suc n) r (s ∷ ss) p q = folded_on w h n (joined r s) ss (joined_on w h r s p q.0) q.1
 
 -- and covers whatever is pending or among the newest past damages
-folded_off : (w h : ℕ) (n : ℕ) (r : List Rect) (rs : List (List Rect)) (x y : ℕ) → OnDisplay w h r → All (OnDisplay w h) rs → covers (fold joined r (take n rs)) x y ≡ false → (covers r x y || among n rs x y) ≡ false
+folded_off : (w h : ℕ) (n : ℕ) (r : List Rect) (rs : List (List Rect)) (x y : ℕ) → OnDisplay w h r → AllByRecursion (OnDisplay w h) rs → covers (fold joined r (take n rs)) x y ≡ false → (covers r x y || among n rs x y) ≡ false
 folded_off w h zero r rs x y p q e = or_from (covers r x y) false e refl
 folded_off w h (suc n) r [] x y p q e = or_from (covers r x y) false e refl
 folded_off w h (suc n) r (s ∷ ss) x y p q e =
@@ -79,7 +79,7 @@ folded_off w h (suc n) r (s ∷ ss) x y p q e =
     let j = joined_off w h r s x y p q.0 i.0 in
     or_from (covers r x y) (covers s x y || among n ss x y) j.0 (or_from (covers s x y) (among n ss x y) j.1 i.1)
 
-module _ (w h : ℕ) (a : 1 ≤ w) (b : w ≤ 1024) (c : 1 ≤ h) (d : h ≤ 1024) (st : State) (p : OnDisplay w h st.pending) (q : All (OnDisplay w h) st.past) where
+module _ (w h : ℕ) (a : 1 ≤ w) (b : w ≤ 1024) (c : 1 ≤ h) (d : h ≤ 1024) (st : State) (p : OnDisplay w h st.pending) (q : AllByRecursion (OnDisplay w h) st.past) where
   pub stated_on : (n : ℕ) → OnDisplay w h (stated w h n st)
   stated_on n =
       ⊎_elim
@@ -99,7 +99,7 @@ module _ (w h : ℕ) (a : 1 ≤ w) (b : w ≤ 1024) (c : 1 ≤ h) (d : h ≤ 102
       never : true ≡ false → ⊥
       never z = let o : ◌≡◌ {A = ℕ} 0 1 = cc in omega arith
 
-pub past_on : (w h : ℕ) (n : ℕ) (rs : List (List Rect)) → All (OnDisplay w h) rs → All (OnDisplay w h) (take n rs)
+pub past_on : (w h : ℕ) (n : ℕ) (rs : List (List Rect)) → AllByRecursion (OnDisplay w h) rs → AllByRecursion (OnDisplay w h) (take n rs)
 past_on w h zero rs q = tt
 past_on w h (suc n) [] q = tt
 past_on w h (suc n) (r ∷ rs) q = (q.0, past_on w h n rs q.1)
