@@ -50,12 +50,12 @@ module _ {P : Type 0} (lay : P → P → P) (t : Told P) (x y : ℕ) (base : P) 
   fold_from d (s ∷ ss) zero = refl
   fold_from d (s ∷ ss) (suc i) = fold_from (laid_over lay (cond (blocks x y s) base d) (sight_pixel t x y s)) ss i
 
-  get_d_after : (ss : List Sight) (i j : ℕ) → get_or (drop i ss) j no_sight ≡ get_or ss (i + j) no_sight
-  get_d_after [] zero j = ap (λ n. get_or {A = Sight} [] n no_sight) (let z : j ≡ 0 + j = omega arith in z)
-  get_d_after [] (suc i) zero = refl
-  get_d_after [] (suc i) (suc j) = refl
-  get_d_after (s ∷ ss) zero j = ap (λ n. get_or (s ∷ ss) n no_sight) (let z : j ≡ 0 + j = omega arith in z)
-  get_d_after (s ∷ ss) (suc i) j = get_d_after ss i j ∙ (let z : suc (i + j) ≡ suc i + j = omega arith in ap (λ n. get_or (s ∷ ss) n no_sight) z)
+  get_or_after : (ss : List Sight) (i j : ℕ) → get_or (drop i ss) j no_sight ≡ get_or ss (i + j) no_sight
+  get_or_after [] zero j = ap (λ n. get_or {A = Sight} [] n no_sight) (let z : j ≡ 0 + j = omega arith in z)
+  get_or_after [] (suc i) zero = refl
+  get_or_after [] (suc i) (suc j) = refl
+  get_or_after (s ∷ ss) zero j = ap (λ n. get_or (s ∷ ss) n no_sight) (let z : j ≡ 0 + j = omega arith in z)
+  get_or_after (s ∷ ss) (suc i) j = get_or_after ss i j ∙ (let z : suc (i + j) ≡ suc i + j = omega arith in ap (λ n. get_or (s ∷ ss) n no_sight) z)
 
   -- begun at the pane that hides all below it, or at the lowest
   begun : (ss : List Sight) (d : P) → ((j : ℕ) → 0 < j → j < length ss → blocks x y (get_or ss j no_sight) ≡ false) → (d ≡ base) ⊎ (blocks x y (get_or ss 0 no_sight) ≡ true)
@@ -74,7 +74,7 @@ module _ {P : Type 0} (lay : P → P → P) (t : Told P) (x y : ℕ) (base : P) 
       start (inr e) = cond-true (blocks x y s) base d e
 
   pub composed_from : (ss : List Sight) (from laid : ℕ) (p : P) → Descends ss x y from laid → p ≡ over lay t x y base (drop from ss) → p ≡ composed lay t base ss x y
-  composed_from ss from laid p d e = e ∙ sym (fold_from base ss from ∙ go (begun (drop from ss) u (λ j l m. ap (blocks x y) (get_d_after ss from j) ∙ d.above (from + j) (omega arith) (rest j m)) start))
+  composed_from ss from laid p d e = e ∙ sym (fold_from base ss from ∙ go (begun (drop from ss) u (λ j l m. ap (blocks x y) (get_or_after ss from j) ∙ d.above (from + j) (omega arith) (rest j m)) start))
     where
       u : P
       u = fold (λ e s. laid_over lay (cond (blocks x y s) base e) (sight_pixel t x y s)) base (take from ss)
@@ -90,7 +90,7 @@ module _ {P : Type 0} (lay : P → P → P) (t : Told P) (x y : ℕ) (base : P) 
         where
           case : (eqb from 0 ≡ true) ⊎ (blocks x y (get_or ss from no_sight) ≡ true) → (fold (λ e s. laid_over lay (cond (blocks x y s) base e) (sight_pixel t x y s)) base (take from ss) ≡ base) ⊎ (blocks x y (get_or (drop from ss) 0 no_sight) ≡ true)
           case (inl z) = inl (at_zero from (eqb-true from 0 z))
-          case (inr b) = inr (ap (blocks x y) (get_d_after ss from 0 ∙ (let z : from + 0 ≡ from = omega arith in ap (λ n. get_or ss n no_sight) z)) ∙ b)
+          case (inr b) = inr (ap (blocks x y) (get_or_after ss from 0 ∙ (let z : from + 0 ≡ from = omega arith in ap (λ n. get_or ss n no_sight) z)) ∙ b)
 
       go : (fold (λ e s. laid_over lay (cond (blocks x y s) base e) (sight_pixel t x y s)) u (drop from ss) ≡ over lay t x y base (drop from ss)) ⊎ (drop from ss ≡ [])
           → fold (λ e s. laid_over lay (cond (blocks x y s) base e) (sight_pixel t x y s)) (fold (λ e s. laid_over lay (cond (blocks x y s) base e) (sight_pixel t x y s)) base (take from ss)) (drop from ss) ≡ over lay t x y base (drop from ss)
