@@ -12,4 +12,6 @@ mod refusals;
 #[cfg(test)]
 mod regions;
 #[cfg(test)]
+mod scripts;
+#[cfg(test)]
 mod surfaces;
