@@ -7,63 +7,16 @@ ghost use Rattle.region_laws.specs.Counted.{area as area_of};
 ghost use Rattle.region_laws.specs.Laws.{Same, OneList, EverySet, EachOnce, Counts, StaysIn};
 ghost use Rattle.region.specs.Lists.{list_of};
 
+use crate::bands::Bands;
 use crate::cover::covering;
 use crate::region::Region;
 use region_laws::Rect;
 
-// Whether a box covers a pixel.
-fn holds(b: Rect, x: u32, y: u32) -> bool
-    ensures { result ≡ inside b x y }
-{
-    b.left <= x && x < b.right && b.top <= y && y < b.bottom
-}
-
 // Whether one of several boxes covers a pixel.
-fn some_holds(bs: &[Rect], x: u32, y: u32) -> bool
+fn some_covers(bs: &[Rect], x: u32, y: u32) -> bool
     ensures { result ≡ has_pixel bs.now x y }
 {
-    for i in 0..bs.len() {
-        if holds(bs[i], x, y) {
-            return true;
-        }
-    }
-    false
-}
-
-// The number of pixels of banded boxes.
-fn total(bs: &[Rect]) -> u32
-    requires { all_banded bs.now ≡ true }
-    ensures { result ≡ area_of bs.now }
-{
-    let mut n = 0;
-    for i in 0..bs.len() {
-        let wide = bs[i].right - bs[i].left;
-        let high = bs[i].bottom - bs[i].top;
-        n += wide * high;
-    }
-    n
-}
-
-// Whether two boxes are equal.
-fn same_box(a: Rect, b: Rect) -> bool
-    ensures { Decides result (a ≡ b) }
-{
-    a.left == b.left && a.top == b.top && a.right == b.right && a.bottom == b.bottom
-}
-
-// Whether two lists are equal.
-fn equal(xs: &[Rect], ys: &[Rect]) -> bool
-    ensures { Decides result (xs.now ≡ ys.now) }
-{
-    if xs.len() != ys.len() {
-        return false;
-    }
-    for i in 0..xs.len() {
-        if !same_box(xs[i], ys[i]) {
-            return false;
-        }
-    }
-    true
+    bs.iter().any(|b| b.covers(x, y))
 }
 
 impl Region {
@@ -76,33 +29,34 @@ impl Region {
         ensures within { StaysIn (list_of self.now) }
         ensures each_once { EachOnce (list_of self.now) }
     {
-        &self.boxes[0..self.count]
+        &self.boxes[..self.count]
+    }
+
+    // The same, to be swept.
+    pub(crate) fn bands(&self) -> Bands<'_>
+        ensures { result.boxes.now ≡ list_of self.now }
+    {
+        let boxes = self.boxes();
+        Bands { boxes }
     }
 
     // Whether it covers the pixel (x, y).
     pub fn covers(&self, x: u32, y: u32) -> bool
         ensures { result ≡ has_pixel (list_of self.now) x y }
     {
-        some_holds(self.boxes(), x, y)
-    }
-
-    // Adds up the pixels of its boxes.
-    fn count_pixels(&self) -> u32
-        ensures sum { result ≡ area_of (list_of self.now) }
-        ensures counts { Counts (list_of self.now) }
-    {
-        total(self.boxes())
+        some_covers(self.boxes(), x, y)
     }
 
     // The number of its pixels.
+    #[tactic(auto, using(region_laws::proofs::Counts::counts))]
     pub fn area(&self) -> u32
         ensures sum { result ≡ area_of (list_of self.now) }
         ensures counts { Counts (list_of self.now) }
     {
-        self.count_pixels()
+        self.bands().area()
     }
 
-    // The smallest box over it; (0, 0, 0, 0) for the empty region.
+    // The smallest box over it; (0, 0, 0, 0) for the empty region, as `Smallest` says.
     pub fn extents(&self) -> Rect
         ensures value { result ≡ cover (list_of self.now) }
         ensures smallest { Smallest (has_pixel (list_of self.now)) result }
@@ -110,23 +64,14 @@ impl Region {
         covering(Rect::NONE, self.boxes())
     }
 
-    // Compares the lists of two regions.
-    fn compare(&self, other: &Region) -> bool
-        ensures lists { Decides result (list_of self.now ≡ list_of other.now) }
-        ensures sets { Decides result (Same (has_pixel (list_of self.now)) (has_pixel (list_of other.now))) }
-        ensures one_list { OneList }
-        ensures every_set { EverySet }
-    {
-        equal(self.boxes(), other.boxes())
-    }
-
-    // Whether two regions are the same set of pixels, and so the same list.
+    // Whether two regions are the same set of pixels, and so the same list: what their derived equality means.
+    #[tactic(auto, using(crate::proofs::Same::same_boxes, crate::proofs::Same::boxes_same, crate::proofs::Same::boxes_from_list, crate::proofs::Same::count_from_list, crate::proofs::Same::list_from_pixels))]
     pub fn same(&self, other: &Region) -> bool
         ensures lists { Decides result (list_of self.now ≡ list_of other.now) }
         ensures sets { Decides result (Same (has_pixel (list_of self.now)) (has_pixel (list_of other.now))) }
         ensures one_list { OneList }
         ensures every_set { EverySet }
     {
-        self.compare(other)
+        self == other
     }
 }

@@ -6,7 +6,6 @@ ghost use Rattle.region_laws.specs.Laws.{Same};
 ghost use Rattle.region.specs.Clipped.{sized, within, shown, held, held_box, clipped, common};
 ghost use Rattle.region.specs.Lists.{list_of};
 
-use crate::cover::is_full;
 use crate::display::Display;
 use crate::region::Region;
 use crate::signed_rect::SignedRect;
@@ -14,16 +13,9 @@ use region_laws::Rect;
 
 // A signed edge, held to 0 .. max.
 fn edge(v: i32, max: u32) -> u32
-    requires { max ≤ 1024 }
     ensures { result ≡ held v max }
 {
-    if v <= 0 {
-        return 0;
-    }
-    if v >= max as i32 {
-        return max;
-    }
-    v as u32
+    u32::try_from(v).unwrap_or(0).min(max)
 }
 
 impl Display {
@@ -31,10 +23,10 @@ impl Display {
     pub fn new(width: u32, height: u32) -> Option<Display>
         ensures { MatchOption result (sized width height ≡ false) (λ d. (d.width ≡ width) × (d.height ≡ height)) }
     {
-        if width == 0 || width > 1024 || height == 0 || height > 1024 {
-            return None;
+        if (1..=1024).contains(&width) && (1..=1024).contains(&height) {
+            return Some(Display { width, height });
         }
-        Some(Display { width, height })
+        None
     }
 
     // A box with its edges held to the display's.
@@ -49,29 +41,22 @@ impl Display {
         }
     }
 
-    // The box with its edges held, if it covers a pixel.
-    fn cut(&self, b: SignedRect) -> Option<Rect>
-        ensures value { result ≡ clipped self.now.width self.now.height b }
-        ensures pixels { MatchOption result ((x y : ℕ) → common self.now.width self.now.height b x y ≡ false)
-            (λ c. Same (inside c) (common self.now.width self.now.height b)) }
-    {
-        let c = self.hold(b);
-        if is_full(c) {
-            return Some(c);
-        }
-        None
-    }
-
     // The common box of a box and the display, or nothing where no pixel is common.
+    #[tactic(auto, using(crate::proofs::Edges::common_held, region_laws::proofs::Smallest::nothing))]
     pub fn clip(&self, b: SignedRect) -> Option<Rect>
         ensures value { result ≡ clipped self.now.width self.now.height b }
         ensures pixels { MatchOption result ((x y : ℕ) → common self.now.width self.now.height b x y ≡ false)
             (λ c. Same (inside c) (common self.now.width self.now.height b)) }
     {
-        self.cut(b)
+        let c = self.hold(b);
+        if c.is_full() {
+            return Some(c);
+        }
+        None
     }
 
     // The region of the pixels that a box and the display have in common.
+    #[tactic(auto, using(crate::proofs::Edges::common_held, region_laws::proofs::Join::single_covers))]
     pub fn region_of(&self, b: SignedRect) -> Region
         ensures list { list_of result ≡ single (held_box self.now.width self.now.height b) }
         ensures pixels { Same (covers (list_of result)) (common self.now.width self.now.height b) }
@@ -84,11 +69,6 @@ impl Display {
         ensures list { list_of result ≡ box 0 0 self.now.width self.now.height ∷ [] }
         ensures pixels { Same (covers (list_of result)) (shown self.now.width self.now.height) }
     {
-        Region::single(Rect {
-            left: 0,
-            top: 0,
-            right: self.width,
-            bottom: self.height,
-        })
+        Region::single(Rect::of_size(self.width, self.height))
     }
 }

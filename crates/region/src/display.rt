@@ -1,7 +1,7 @@
 ghost use Rattle.std.specs.Prelude.{◌<◌, ◌≤◌};
 
 // A display of `width` by `height` pixels, each 1 to 1,024; x counts right and y down, from 0.
-#[derive(Clone, Copy)]
+#[derive(Clone, Copy, PartialEq, Eq, Debug)]
 pub struct Display {
     pub width: u32,
     pub height: u32,

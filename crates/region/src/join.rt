@@ -4,21 +4,21 @@ ghost use Rattle.region_laws.specs.Laws.{Unites, Joins, JoinLaws};
 ghost use Rattle.region.specs.Lists.{list_of};
 
 use crate::cover::covering;
+use crate::pile::Full;
 use crate::region::Region;
-use crate::sweep::unite;
-use region_laws::Rect;
 
 // What stands for the union of two regions where its list is too long for a region.
+#[tactic(auto, using(crate::proofs::Joins::stood_in, crate::proofs::Joins::stands_left, crate::proofs::Joins::stands_above))]
 fn stand_in(a: &Region, b: &Region) -> Region
     ensures { list_of result ≡ stand_in (union (list_of a.now) (list_of b.now)) }
 {
-    let first = covering(Rect::NONE, a.boxes());
-    Region::single(covering(first, b.boxes()))
+    Region::single(covering(a.extents(), b.boxes()))
 }
 
 impl Region {
-    // The union of two regions or, where its list has more than 32 boxes, the stand-in for it: today the one smallest
-    // box that covers it.
+    // The union of two regions or, where its list has more than 32 boxes, the stand-in for it: the one smallest box
+    // that covers it.
+    #[tactic(auto, using(crate::proofs::Joins::joined_first, crate::proofs::Joins::joined_second))]
     pub fn join(&self, other: &Region) -> Region
         ensures list { list_of result ≡ joined (list_of self.now) (list_of other.now) }
         ensures joins { Joins (list_of self.now) (list_of other.now) (list_of result) }
@@ -31,9 +31,9 @@ impl Region {
         if other.count == 0 {
             return *self;
         }
-        match unite(self.boxes(), other.boxes()) {
-            Some(p) => Region::made(p),
-            None => stand_in(self, other),
+        match self.bands().unite(&other.bands()) {
+            Ok(p) => Region::made(p),
+            Err(Full) => stand_in(self, other),
         }
     }
 }

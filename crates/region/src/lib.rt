@@ -2,6 +2,7 @@
 #![tactic(auto)]
 
 mod asking;
+mod bands;
 mod clip;
 mod cover;
 mod display;
@@ -11,7 +12,6 @@ mod merge;
 mod pile;
 mod region;
 mod signed_rect;
-mod slab;
 mod stacking;
 mod strip;
 mod sweep;

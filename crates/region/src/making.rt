@@ -5,7 +5,6 @@ ghost use Rattle.region_laws.specs.Joined.{single as single_box};
 ghost use Rattle.region.specs.Lists.{list_of};
 ghost use Rattle.region.specs.Making.{pile_of};
 
-use crate::cover::is_full;
 use crate::pile::Pile;
 use crate::region::Region;
 use region_laws::Rect;
@@ -26,7 +25,7 @@ impl Region {
         requires { full b ≡ true → (b.right ≤ 1024) × (b.bottom ≤ 1024) }
         ensures { list_of result ≡ single_box b }
     {
-        if !is_full(b) {
+        if !b.is_full() {
             return Region::empty();
         }
         let mut boxes = [Rect::NONE; 32];
@@ -39,10 +38,9 @@ impl Region {
         requires { all_banded (pile_of p) ≡ true }
         ensures { list_of result ≡ pile_of p }
     {
-        let boxes = p.boxes;
-        Region {
-            boxes,
-            count: p.count,
-        }
+        let mut boxes = [Rect::NONE; 32];
+        let count = p.boxes.len();
+        boxes[..count].copy_from_slice(&p.boxes);
+        Region { boxes, count }
     }
 }

@@ -1,16 +1,17 @@
-ghost use Rattle.std.specs.Prelude.{◌≡◌, ◌-◌, ◌≤◌, length, drop, replicate};
-ghost use Rattle.region_laws.specs.Boxes.{no_box};
+ghost use Rattle.std.specs.Prelude.{◌≤◌, length};
 
+use arrayvec::ArrayVec;
 use region_laws::Rect;
 
-// A region being made from the top down: the first `count` of `boxes`, of which those from `start` on are the last band.
-#[derive(Clone, Copy, Drop)]
+// A region being made from the top down: `boxes`, of which those from `start` on are the last band.
+#[derive(Drop)]
 pub struct Pile {
-    pub boxes: [Rect; 32],
-    pub count: usize,
+    pub boxes: ArrayVec<Rect, 32>,
     pub start: usize,
-    ghost size: { length boxes ≡ 32 },
-    ghost few: { count ≤ 32 },
-    ghost begun: { start ≤ count },
-    ghost rest: { drop count boxes ≡ replicate (32 - count) no_box },
+    ghost few: { length boxes.items ≤ 32 },
+    ghost begun: { start ≤ length boxes.items },
 }
+
+// Why a row can't be added: the region would have more boxes than it can hold.
+#[derive(Clone, Copy, PartialEq, Eq, Debug)]
+pub struct Full;

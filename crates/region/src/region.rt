@@ -5,8 +5,8 @@ ghost use Rattle.region_laws.specs.Boxes.{no_box};
 use region_laws::Rect;
 
 // A set of display pixels: the first `count` of `boxes`, a banded list. The boxes past them are (0, 0, 0, 0), so that
-// regions of the same pixels are the same in every part.
-#[derive(Clone, Copy)]
+// regions of the same pixels are the same in every part; a list of the library's would leave those places open.
+#[derive(Clone, Copy, PartialEq, Eq)]
 pub struct Region {
     pub(crate) boxes: [Rect; 32],
     pub(crate) count: usize,

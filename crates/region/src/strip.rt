@@ -1,12 +1,8 @@
-ghost use Rattle.std.specs.Prelude.{◌≡◌, ◌≤◌, length};
-
+use arrayvec::ArrayVec;
 use region_laws::Rect;
 
-// A row being made from left to right: the lefts and rights of the first `count` of `boxes`.
-#[derive(Clone, Copy)]
+// A row being made from left to right: the lefts and rights of `spans`.
+#[derive(Default, Drop)]
 pub struct Strip {
-    pub boxes: [Rect; 64],
-    pub count: usize,
-    ghost size: { length boxes ≡ 64 },
-    ghost few: { count ≤ 64 },
+    pub spans: ArrayVec<Rect, 64>,
 }

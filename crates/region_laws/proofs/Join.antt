@@ -1,7 +1,7 @@
 -- The laws of a join. But for the worked examples nothing opens `stand_in` outside this file.
-use Rattle.std.proofs.Common.{◌≡◌, ℕ, ◌<◌, ◌≤◌, Bool, true, false, cond, ◌||◌, leb, ◌⊎◌, List, [], ◌∷◌, ◌++◌, length, sym, refl, ap, ◌∙◌, subst, inl, inr, arith}
+use Rattle.std.proofs.Common.{◌≡◌, ℕ, ◌≤◌, Bool, true, false, cond, ◌||◌, leb, ◌⊎◌, List, [], ◌∷◌, ◌++◌, length, sym, refl, ap, ◌∙◌, subst, inl, inr, arith}
 use Rattle.std.proofs.lemmas.Bool.Decides.{nat_tests}
-use Rattle.std.proofs.lemmas.Bool.{cases_Bool, cond-true, cond-false, cond_both, or_cases, leb-true, le-leb, lt-leb, false≢true}
+use Rattle.std.proofs.lemmas.Bool.{cases_Bool, cond-true, cond-false, cond_both, or_cases, leb-true, le-leb, false≢true}
 use Rattle.region_laws.specs.Boxes.{box, no_box, inside, full, Within}
 use Rattle.region_laws.specs.Bands.{covers, banded, farthest}
 use Rattle.region_laws.specs.Joined.{either, union, cover_from, cover, single, most, stand_in, joined}
@@ -79,9 +79,6 @@ stand_in_is xs ys k m =
 pub joined_short : (xs ys : List Rect) → length (union xs ys) ≤ most → joined xs ys ≡ union xs ys
 joined_short xs ys h = cond-true _ _ _ (le-leb _ _ h)
 
-pub joined_long : (xs ys : List Rect) → most < length (union xs ys) → joined xs ys ≡ stand_in (union xs ys)
-joined_long xs ys h = cond-false _ _ _ (lt-leb _ _ h)
-
 by_cases : (P : List Rect → Type 0) (xs ys : List Rect) → (length (union xs ys) ≤ most → P (union xs ys)) → P (stand_in (union xs ys)) → P (joined xs ys)
 by_cases P xs ys f g = cond_both (leb (length (union xs ys)) most) (union xs ys) (stand_in (union xs ys)) P (λ t. f (leb-true _ _ t)) (λ _. g)
 
@@ -127,7 +124,3 @@ both_inside xs ys b k m e f =
     let g : cover (xs ++ ys) ≡ b = from_append no_box xs ys ∙ sym e in
     let s = cover_sound (xs ++ ys) (all_append Sound xs ys (banded_all xs k) (banded_all ys m)) (ap full g ∙ f) in
     subst (λ (c : Rect). (c.right ≤ farthest) × (c.bottom ≤ farthest)) g (s.right, s.bottom)
-
--- what both parts keep inside a display, a join keeps
-pub joined_in : (xs ys : List Rect) (w h : ℕ) → banded xs ≡ true → banded ys ≡ true → Within (covers xs) (inside (box 0 0 w h)) → Within (covers ys) (inside (box 0 0 w h)) → Within (covers (joined xs ys)) (inside (box 0 0 w h))
-joined_in xs ys w h k m p q = joined_least xs ys k m (box 0 0 w h) p q

@@ -67,13 +67,6 @@ within_inner b c n x y k =
     let u = s.left in let v = s.right in let w = s.top in let z = s.bottom in
     at_spot c x y (record { left = omega arith; right = omega arith; top = omega arith; bottom = omega arith })
 
-not_full : (b : Rect) → (full b ≡ true → ⊥) → full b ≡ false
-not_full b n = go (cases_Bool (full b))
-  where
-    go : (full b ≡ true) ⊎ (full b ≡ false) → full b ≡ false
-    go (inl t) = absurd (n t)
-    go (inr f) = f
-
 same_box : (b c : Rect) → Inner b c → Inner c b → b ≡ c
 same_box b c p q =
     let pl = p.left in let pr = p.right in let pt = p.top in let po = p.bottom in

@@ -1,13 +1,11 @@
-use Rattle.std.proofs.Common.{◌+◌, drop, sym, ap, ◌∙◌, arith}
-use Rattle.std.proofs.lemmas.List.{at_drop_more, at_drop_all}
-use Rattle.region_laws.specs.Boxes.{no_box}
+use Rattle.std.proofs.Common.{◌≡◌, refl, subst, rules}
+use Rattle.std.proofs.lemmas.Fn.{fold_over, slice_gives, fronts}
 use Rattle.region_laws.specs.Joined.{cover_from}
+use Rattle.region.proofs.Lists.{cover_push}
 use Rattle.region.proofs.cover.covering.Goals as goal
 
-pub loop-i-preserved : goal.loop-i-preserved
-loop-i-preserved c =
-    ap (λ v. cover_from v (drop (c.loop-i.i + 1) c.args.bs.now)) c.widen-all.ensures
-    ∙ (sym (at_drop_more (λ v. cover_from c.loop-i.all v) c.args.bs.now c.loop-i.i no_box (omega arith)) ∙ c.loop-i.invariant)
-
 pub returns : goal.returns
-returns c = sym (at_drop_all (λ v. cover_from c.loop-i.all v) c.args.bs.now c.loop-i.i (omega arith)) ∙ c.loop-i.invariant
+returns c =
+    subst (λ l. c.fold.result ≡ cover_from c.args.c l) c.iter.ensures.rest
+    (fold_over fronts (λ y. y.now) _ (λ ys a. a ≡ cover_from c.args.c ys) _ (λ ys a x b f' j k. let e = cover_push c.args.c ys x.now in search rules)
+    _ _ _ _ (slice_gives c.iter.result) refl c.fold.ensures.ran)
