@@ -1,18 +1,18 @@
 -- The cells of a figure, and the smallest box over those that changed.
-use Rattle.std.proofs.Common.{◌≡◌, ℕ, zero, suc, ◌+◌, ◌-◌, ◌*◌, ◌/◌, ◌%◌, ◌<◌, ◌≤◌, Bool, true, false, cond, ◌&&◌, ◌||◌, ltb, leb, ℤ, Some, sym, refl, ap, ◌∙◌, ⊎_elim, mul_assoc, mul_comm, add-mul, arith}
+use Rattle.std.proofs.Common.{◌≡◌, ℕ, zero, suc, ◌+◌, ◌-◌, ◌*◌, ◌/◌, ◌%◌, ◌<◌, ◌≤◌, Bool, true, false, cond, ◌&&◌, ◌||◌, ltb, leb, List, [], ◌∷◌, ℤ, Option, Some, None, IfSome, sym, refl, ap, ◌∙◌, ⊎_elim, mul_assoc, mul_comm, add-mul, arith}
+use Rattle.std.specs.List.{find, list_all}
 use Rattle.std.proofs.lemmas.Nat.{mul-le, div-add-mod', mod_below, div_below, div-mul-add, mod-mul-add}
-use Rattle.std.proofs.lemmas.Bool.{cases_lt, cases_Bool, both_ways, lt-ltb, le-ltb, ltb-true, leb-true, le-leb, and_parts, and_from, or_cases, or_left, or_right, not_from_false, eqb-true}
+use Rattle.std.proofs.lemmas.Bool.{cases_lt, cases_Bool, both_ways, lt-ltb, le-ltb, ltb-true, leb-true, le-leb, and_parts, and_from, cond_both, or_cases, or_left, or_right, not_from_false, eqb-true}
 use Rattle.region_laws.specs.Boxes.{box, no_box, full, Smallest}
 use Rattle.surface.specs.Damaged.{Damaged}
 use Rattle.surface.specs.Hull.{cut}
-use Rattle.surface.specs.Settled.{Settled}
 use Rattle.surface.proofs.Hulls.{in_from, from_in, hulls, one_smallest, none_smallest}
 use Rattle.surface.proofs.Singles.{single_damaged}
 use Rattle.figure.specs.declared.character.Character.{Character}
 use Rattle.figure.specs.declared.character.Character.TheVariants.{Digit, Minus, Blank}
 use Rattle.figure.specs.Characters.{in_cell}
 use Rattle.figure.specs.Glyphs.{ink}
-use Rattle.figure.specs.Figures.{accepts, inked, picture, Drawn, figure, told, same, cell, unlike, hit, touched, damage, Showed}
+use Rattle.figure.specs.Figures.{accepts, inked, picture, Drawn, figure, same, cell, unlike, hit, touched, damage}
 
 pub same_true : (a b : Character) → same a b ≡ true → a ≡ b
 same_true (Digit d) (Digit e) h = ap Digit (eqb-true d e h)
@@ -43,6 +43,44 @@ picked f e = ⊎_elim
     (λ u. ⊎_elim (λ v. record { at = 0; few = omega arith; yes = v }) (λ v. record { at = 1; few = omega arith; yes = v }) (or_cases (f 0) (f 1) u))
     (λ u. ⊎_elim (λ v. record { at = 2; few = omega arith; yes = v }) (λ v. record { at = 3; few = omega arith; yes = v }) (or_cases (f 2) (f 3) u))
     (or_cases (f 0 || f 1) (f 2 || f 3) e)
+
+-- what the search of the four cells, from the left or from the right, finds
+found : (f : ℕ → Bool) (xs : List ℕ) (a : ℕ) → find f xs ≡ Some a → f a ≡ true
+found f [] a s = let z : ◌≡◌ {A = ℕ} 0 1 = cc in absurd (omega arith)
+found f (x ∷ xs) a s = cond_both (f x) _ _ (λ v. v ≡ Some a → f a ≡ true) (λ e t. let z : x ≡ a = cc in sym (ap f z) ∙ e) (λ e t. found f xs a t) s
+
+-- one of cells that are all inside
+within : (f : ℕ → Bool) (xs : List ℕ) (a : ℕ) → list_all (λ i. ltb i 4) xs ≡ true → find f xs ≡ Some a → a < 4
+within f [] a h s = let z : ◌≡◌ {A = ℕ} 0 1 = cc in absurd (omega arith)
+within f (x ∷ xs) a h s = cond_both (f x) _ _ (λ v. v ≡ Some a → a < 4) (λ e t. let z : x ≡ a = cc in let i = ltb-true x 4 (and_parts (ltb x 4) _ h).0 in omega arith) (λ e t. within f xs a (and_parts (ltb x 4) _ h).1 t) s
+
+pub few : (f : ℕ → Bool) (xs : List ℕ) (r : Option ℕ) → list_all (λ i. ltb i 4) xs ≡ true → r ≡ find f xs → IfSome r (λ i. i < 4)
+few f xs None h e = tt
+few f xs (Some a) h e = within f xs a h (sym e)
+
+from_left : (f : ℕ → Bool) (a i : ℕ) → find f (0 ∷ 1 ∷ 2 ∷ 3 ∷ []) ≡ Some a → i < 4 → f i ≡ true → a ≤ i
+from_left f a zero s h t = grind arith
+from_left f a (suc zero) s h t = grind arith
+from_left f a (suc (suc zero)) s h t = grind arith
+from_left f a (suc (suc (suc zero))) s h t = grind arith
+from_left f a (suc (suc (suc (suc i)))) s h t = absurd (omega arith)
+
+from_right : (f : ℕ → Bool) (a i : ℕ) → find f (3 ∷ 2 ∷ 1 ∷ 0 ∷ []) ≡ Some a → i < 4 → f i ≡ true → i ≤ a
+from_right f a zero s h t = grind arith
+from_right f a (suc zero) s h t = grind arith
+from_right f a (suc (suc zero)) s h t = grind arith
+from_right f a (suc (suc (suc zero))) s h t = grind arith
+from_right f a (suc (suc (suc (suc i)))) s h t = absurd (omega arith)
+
+one_right : (f : ℕ → Bool) (a : ℕ) → find f (0 ∷ 1 ∷ 2 ∷ 3 ∷ []) ≡ Some a → find f (3 ∷ 2 ∷ 1 ∷ 0 ∷ []) ≡ None → ⊥
+one_right f a s n = grind arith
+
+from_none : (f : ℕ → Bool) (i : ℕ) → find f (0 ∷ 1 ∷ 2 ∷ 3 ∷ []) ≡ None → i < 4 → f i ≡ false
+from_none f zero s h = grind arith
+from_none f (suc zero) s h = grind arith
+from_none f (suc (suc zero)) s h = grind arith
+from_none f (suc (suc (suc zero))) s h = grind arith
+from_none f (suc (suc (suc (suc i)))) s h = absurd (omega arith)
 
 module _ (old new : ℤ) (z : ℕ) where
   -- x lies in a cell whose character changed
@@ -79,12 +117,15 @@ module _ (old new : ℤ) (z : ℕ) where
       record { right = ltb-true _ _ q.0; bottom = ltb-true _ _ q.1; here = hit_from x y p.1 }
 
   -- from the first to the last cell that changed
-  module _ (first last : ℕ) (pos : 0 < z) (f4 : first < 4) (l4 : last < 4) (cf : unlike old new first ≡ true) (cl : unlike old new last ≡ true)
-      (before : (i : ℕ) → i < first → unlike old new i ≡ false) (after : (i : ℕ) → i < 4 → last < i → unlike old new i ≡ false) where
+  module _ (first last : ℕ) (pos : 0 < z) (f : find (unlike old new) (0 ∷ 1 ∷ 2 ∷ 3 ∷ []) ≡ Some first) (l : find (unlike old new) (3 ∷ 2 ∷ 1 ∷ 0 ∷ []) ≡ Some last) where
     ends_smallest : Smallest (cut (touched old new z) (15 * z) (5 * z)) (box (4 * z * first) 0 (4 * z * last + 3 * z) (5 * z))
     ends_smallest =
         let b = box (4 * z * first) 0 (4 * z * last + 3 * z) (5 * z) in
-        let ordered : first ≤ last = ⊎_elim (λ lt. absurd (both_ways _ (before last lt) cl)) (λ le. le) (cases_lt last first) in
+        let cf = found (unlike old new) (0 ∷ 1 ∷ 2 ∷ 3 ∷ []) first f in
+        let cl = found (unlike old new) (3 ∷ 2 ∷ 1 ∷ 0 ∷ []) last l in
+        let f4 : first < 4 = within (unlike old new) (0 ∷ 1 ∷ 2 ∷ 3 ∷ []) first refl f in
+        let l4 : last < 4 = within (unlike old new) (3 ∷ 2 ∷ 1 ∷ 0 ∷ []) last refl l in
+        let ordered : first ≤ last = (from_left (unlike old new) first last f l4 cl) in
         let span : 4 * z * first ≤ 4 * z * last = mul-le (4 * z) first (4 * z) last (omega arith) ordered in
         let most : 4 * z * last ≤ 4 * z * 3 = mul-le (4 * z) last (4 * z) 3 (omega arith) (omega arith) in
         record {
@@ -92,8 +133,8 @@ module _ (old new : ℤ) (z : ℕ) where
               let t = cut_from x y e in
               let h = t.here in
               let i = h.at in
-              let lo : first ≤ h.at = ⊎_elim (λ lt. absurd (both_ways _ (before h.at lt) h.changed)) (λ le. le) (cases_lt h.at first) in
-              let hi : h.at ≤ last = ⊎_elim (λ lt. absurd (both_ways _ (after h.at h.few lt) h.changed)) (λ le. le) (cases_lt last h.at) in
+              let lo : first ≤ h.at = (from_left (unlike old new) first h.at f h.few h.changed) in
+              let hi : h.at ≤ last = (from_right (unlike old new) last h.at l h.few h.changed) in
               let l : 4 * z * first ≤ 4 * z * h.at = mul-le (4 * z) first (4 * z) h.at (omega arith) lo in
               let r : 4 * z * h.at ≤ 4 * z * last = mul-le (4 * z) h.at (4 * z) last (omega arith) hi in
               from_in b x y (record { left = omega (arith, h.left); right = omega (arith, h.right); top = omega arith; bottom = t.bottom });
@@ -113,10 +154,14 @@ module _ (old new : ℤ) (z : ℕ) where
     ends_damage = one_smallest (cut (touched old new z) (15 * z) (5 * z)) _ _ ends_smallest (hulls (touched old new z) (15 * z) (5 * z))
 
   -- no cell changed
-  pub none_damage : ((i : ℕ) → i < 4 → unlike old new i ≡ false) → no_box ≡ damage old new z
+  pub none_damage : find (unlike old new) (0 ∷ 1 ∷ 2 ∷ 3 ∷ []) ≡ None → no_box ≡ damage old new z
   none_damage h = one_smallest (cut (touched old new z) (15 * z) (5 * z)) _ _
-      (none_smallest _ (λ x y e. let t = (cut_from x y e).here in both_ways _ (h t.at t.few) t.changed))
+      (none_smallest _ (λ x y e. let t = (cut_from x y e).here in both_ways _ (from_none (unlike old new) t.at h t.few) t.changed))
       (hulls (touched old new z) (15 * z) (5 * z))
+
+  -- which both searches find
+  pub one_damage : (first : ℕ) → find (unlike old new) (0 ∷ 1 ∷ 2 ∷ 3 ∷ []) ≡ Some first → find (unlike old new) (3 ∷ 2 ∷ 1 ∷ 0 ∷ []) ≡ None → no_box ≡ damage old new z
+  one_damage first f l = absurd (one_right (unlike old new) first f l)
 
 regroup : (n p z : ℕ) → (n * 4 + p) * z ≡ 4 * z * n + p * z
 regroup n p z = add-mul (n * 4) p z ∙ ap (λ m. m + p * z) (mul_assoc n 4 z ∙ mul_comm n (4 * z))
@@ -162,11 +207,3 @@ pub show_damaged : {P : Type 0} (hard : P → Bool) (z : ℕ) (old new : ℤ) (d
 show_damaged hard z old new dark light k k0 pos =
     single_damaged (15 * z) (5 * z) (picture z old dark light) (picture z new dark light) (hard dark && hard light) (hard dark && hard light) accepts (touched old new z) k k0
     (λ x y i j e. ap (λ t. Some (cond t dark light)) (kept_ink old new z x y pos i e))
-
--- an order leaves a figure no choice
-pub show_settled : {P : Type 0} (hard : P → Bool) → Settled (told {P = P} hard) Showed
-show_settled hard s t u k o b c p q = record {
-  told = ap (λ v. figure hard v t.shown.value t.ink t.paper) (p.scale ∙ sym q.scale) ∙ ap (λ v. figure hard u.scale v t.ink t.paper) (p.number ∙ sym q.number)
-      ∙ ap (λ v. figure hard u.scale u.shown.value v t.paper) (p.ink ∙ sym q.ink) ∙ ap (λ v. figure hard u.scale u.shown.value u.ink v) (p.paper ∙ sym q.paper);
-  box = p.box ∙ sym q.box;
-}

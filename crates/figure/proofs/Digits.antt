@@ -1,9 +1,10 @@
 -- The characters of a number, read back.
-use Rattle.std.proofs.Common.{◌≡◌, ℕ, suc, ◌+◌, ◌*◌, ◌/◌, ◌%◌, ◌<◌, ◌≤◌, true, false, eqb, leb, ◌⊎◌, ℤ, pos, negsuc, neg_ℤ, ◌≤ℤ◌, sym, refl, ap, ◌∙◌, inl, inr, ⊎_elim, arith}
+use Rattle.std.proofs.Common.{◌≡◌, ℕ, suc, ◌+◌, ◌*◌, ◌/◌, ◌%◌, ◌<◌, ◌≤◌, true, false, eqb, leb, [], ◌∷◌, ◌⊎◌, ℤ, pos, negsuc, neg_ℤ, ◌≤ℤ◌, sym, refl, ap, ◌∙◌, inl, inr, ⊎_elim, arith}
 use Rattle.std.proofs.lemmas.Int.{ints}
 use Rattle.std.proofs.lemmas.Nat.{div-add-mod'}
 use Rattle.std.proofs.lemmas.Bool.{cases_lt, le-leb, lt-leb, leb-true, ne_eqb, and_parts, and_from}
-use Rattle.figure.specs.Characters.{in_range, row, read, tidy}
+use Rattle.figure.specs.declared.character.Character.{Character}
+use Rattle.figure.specs.Characters.{in_cell, in_range, row, read, tidy, Shows}
 
 pub record Good (v : ℤ) : Type 0 where
   pub back : read (row v) ≡ v
@@ -100,3 +101,16 @@ in_range_lem (negsuc m) a b = and_from (leb m 998) true (le-leb m 998 (omega (ar
 -- no two numbers share their characters
 pub rows_apart : (u v : ℤ) → in_range u ≡ true → in_range v ≡ true → row u ≡ row v → u ≡ v
 rows_apart u v i j e = sym (good u i).back ∙ ap read e ∙ (good v j).back
+
+-- four characters that are those of a number in range show it
+pub shows : (v : ℤ) (a b c d : Character) → negsuc 998 ≤ℤ v → v ≤ℤ pos 9999 → a ≡ in_cell v 0 → b ≡ in_cell v 1 → c ≡ in_cell v 2 → d ≡ in_cell v 3
+    → Shows v (a ∷ b ∷ c ∷ d ∷ [])
+shows v a b c d low high ea eb ec ed =
+    let i = in_range_lem v low high in
+    let e : a ∷ b ∷ c ∷ d ∷ [] ≡ row v = cc (ea, eb, ec, ed) in
+    record {
+      named = e;
+      back = ap read e ∙ (good v i).back;
+      apart = λ u j f. rows_apart u v j i (f ∙ e);
+      aligned = ap tidy e ∙ (good v i).aligned;
+    }

@@ -16,6 +16,10 @@ use Rattle.figure.specs.Glyphs.{ink}
 abbrev pub accepts : Order → Bool
 accepts o = (int_le (pos 3) o.act && int_le o.act (pos 3)) && ((int_le (pos 0) o.b && int_le o.b (pos 0)) && in_range o.a)
 
+-- the order that lets a figure show v
+abbrev pub showing : ℤ → Order
+showing v = record { act = pos 3; a = v; b = pos 0 }
+
 -- at scale 1: three columns for each character, and a column of paper between two
 abbrev pub inked : ℤ → ℕ → ℕ → Bool
 inked v column row = nat_lt (column % 4) 3 && ink (in_cell v (column / 4)) (column % 4) row

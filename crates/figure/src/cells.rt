@@ -1,8 +1,8 @@
-ghost use Rattle.std.specs.Prelude.{◌≡◌, ℕ, ◌+◌, ◌*◌, ◌<◌, ◌≤◌, true, false};
-ghost use Rattle.region_laws.specs.Boxes.{box};
+ghost use Rattle.std.specs.Prelude.{◌≡◌, ◌<◌, ◌≤◌, true, nat_lt, find, unwrap_or, IfSome};
+ghost use Rattle.std.specs.List.{list_all};
+ghost use Rattle.region_laws.specs.Boxes.{no_box};
 ghost use Rattle.figure.specs.Figures.{inked, unlike, damage as smallest};
 
-use crate::character::character_in;
 use crate::glyphs::row_bits;
 use crate::reading::Reading;
 use region_laws::Rect;
@@ -14,71 +14,54 @@ pub(crate) fn has_ink(v: Reading, column: u32, row: u32) -> bool
 {
     let part = column % 4;
     if part < 3 {
-        let bits = row_bits(character_in(v, column / 4), row as usize);
+        // Rust has no `From<u32>` for `usize`
+        let bits = row_bits(v.cell(column / 4), row as usize);
         (bits >> (2 - part)) % 2 == 1
     } else {
         false
     }
 }
 
-// Whether the character in cell i changed.
-fn is_changed(old: Reading, new: Reading, i: u32) -> bool
-    requires { i < 4 }
-    ensures { result ≡ unlike old.value new.value i }
-{
-    character_in(old, i) != character_in(new, i)
-}
-
-// The first cell whose character changed, or 4.
-fn first_changed(old: Reading, new: Reading) -> u32
-    ensures few { result ≤ 4 }
-    ensures before { (i : ℕ) → i < result → unlike old.value new.value i ≡ false }
-    ensures found { result < 4 → unlike old.value new.value result ≡ true }
-{
-    for i in 0..4u32 {
-        if is_changed(old, new, i) {
-            return i;
-        }
+// What changes where another number takes this one's place.
+impl Reading {
+    // Whether the character in cell i changes.
+    fn changes(self, next: Reading, i: u32) -> bool
+        ensures { result ≡ unlike self.value next.value i }
+    {
+        self.cell(i) != next.cell(i)
     }
-    4
-}
 
-// The last cell whose character changed, or 4.
-fn last_changed(old: Reading, new: Reading) -> u32
-    ensures few { result ≤ 4 }
-    ensures after { (i : ℕ) → i < 4 → result < i → unlike old.value new.value i ≡ false }
-    ensures found { result < 4 → unlike old.value new.value result ≡ true }
-    ensures none { result ≡ 4 → (i : ℕ) → i < 4 → unlike old.value new.value i ≡ false }
-{
-    for i in (0..4u32).rev() {
-        if is_changed(old, new, i) {
-            return i;
-        }
+    // The first of these cells whose character changes.
+    #[tactic(auto, using(crate::proofs::Changes::few))]
+    fn first_changed(self, next: Reading, cells: &[u32]) -> Option<u32>
+        requires { list_all (λ i. nat_lt i 4) cells.now ≡ true }
+        ensures is { result ≡ find (unlike self.value next.value) cells.now }
+        ensures inside { IfSome result (λ i. i < 4) }
+    {
+        cells.iter().copied().find(|i| self.changes(next, *i))
     }
-    4
-}
 
-// The box from one cell to another, both inside.
-fn span(first: u32, last: u32, z: u32) -> Rect
-    requires { (first ≤ 4) × ((last ≤ 4) × (z ≤ 8)) }
-    ensures { result ≡ box (4 * z * first) 0 (4 * z * last + 3 * z) (5 * z) }
-{
-    Rect {
-        left: 4 * z * first,
-        top: 0,
-        right: 4 * z * last + 3 * z,
-        bottom: 5 * z,
+    // The box from the first to the last cell whose character changes.
+    #[tactic(auto, using(crate::proofs::Changes::ends_damage, crate::proofs::Changes::none_damage, crate::proofs::Changes::one_damage))]
+    fn span(self, next: Reading, z: u32) -> Option<Rect>
+        requires { (0 < z) × (z ≤ 8) }
+        ensures { unwrap_or result no_box ≡ smallest self.value next.value z }
+    {
+        let first = self.first_changed(next, &[0, 1, 2, 3])?;
+        let last = self.first_changed(next, &[3, 2, 1, 0])?;
+        Some(Rect {
+            left: 4 * z * first,
+            top: 0,
+            right: 4 * z * last + 3 * z,
+            bottom: 5 * z,
+        })
     }
-}
 
-// The smallest box over the cells whose character changed.
-pub(crate) fn damage(old: Reading, new: Reading, z: u32) -> Rect
-    requires { (0 < z) × (z ≤ 8) }
-    ensures { result ≡ smallest old.value new.value z }
-{
-    let first = first_changed(old, new);
-    if first == 4 {
-        return Rect::NONE;
+    // The smallest box over the cells whose character changes, at scale z.
+    pub(crate) fn damage(self, next: Reading, z: u32) -> Rect
+        requires { (0 < z) × (z ≤ 8) }
+        ensures { result ≡ smallest self.value next.value z }
+    {
+        self.span(next, z).unwrap_or(Rect::NONE)
     }
-    span(first, last_changed(old, new), z)
 }

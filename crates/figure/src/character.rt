@@ -4,42 +4,20 @@ ghost use Rattle.figure.specs.Characters.{in_cell, in_range, glyph, Shows};
 use crate::reading::Reading;
 
 // What one cell of a figure shows.
-#[derive(Clone, Copy, PartialEq, Eq)]
+#[derive(Clone, Copy, PartialEq, Eq, Debug)]
 pub enum Character {
     Digit(u8),
     Minus,
     Blank,
 }
 
-// The character in cell i, counted from 0 at the left.
-pub(crate) fn character_in(v: Reading, i: u32) -> Character
-    requires { i < 4 }
-    ensures shows { result ≡ in_cell v.value i }
-    ensures known { glyph result < 12 }
-{
-    let n = v.value.unsigned_abs();
-    let weight = match i {
-        0 => 1000,
-        1 => 100,
-        2 => 10,
-        _ => 1,
-    };
-    if weight <= n || i == 3 {
-        Character::Digit((n / weight % 10) as u8)
-    } else if v.value < 0 && (weight <= n * 10 || i == 2) {
-        Character::Minus
-    } else {
-        Character::Blank
-    }
-}
-
 impl Reading {
-    // The number, if four characters can show it.
+    // The number, if four characters can show it; None says all that there is to say of another, so this is no TryFrom.
     pub fn new(value: i32) -> Option<Reading>
         ensures fits { is_some result ≡ in_range value }
         ensures kept { IfSome result (λ v. v.value ≡ value) }
     {
-        if value >= -999 && value <= 9999 {
+        if (-999..=9999).contains(&value) {
             Some(Reading { value })
         } else {
             None
@@ -47,21 +25,32 @@ impl Reading {
     }
 
     // The four characters that show the number, from the left.
+    #[tactic(auto, using(crate::proofs::Digits::shows))]
     pub fn characters(self) -> [Character; 4]
         ensures { Shows self.value result }
     {
-        row_of(self)
+        [self.cell(0), self.cell(1), self.cell(2), self.cell(3)]
     }
-}
 
-// The characters of the four cells.
-fn row_of(v: Reading) -> [Character; 4]
-    ensures { Shows v.value result }
-{
-    [
-        character_in(v, 0),
-        character_in(v, 1),
-        character_in(v, 2),
-        character_in(v, 3),
-    ]
+    // The character in cell i, counted from 0 at the left; past the fourth cell it is that of the fourth.
+    pub(crate) fn cell(self, i: u32) -> Character
+        ensures shows { result ≡ in_cell self.value i }
+        ensures known { glyph result < 12 }
+    {
+        let n = self.value.unsigned_abs();
+        let weight = match i {
+            0 => 1000,
+            1 => 100,
+            2 => 10,
+            _ => 1,
+        };
+        // a digit is narrowed by `as`: below 10, so there is no error to answer
+        if weight <= n || i >= 3 {
+            Character::Digit((n / weight % 10) as u8)
+        } else if self.value < 0 && (weight <= n * 10 || i == 2) {
+            Character::Minus
+        } else {
+            Character::Blank
+        }
+    }
 }

@@ -116,7 +116,7 @@ pub(crate) fn row_bits(c: Character, row: usize) -> u8
     ensures { result ≡ bits c row }
 {
     let i = match c {
-        Character::Digit(d) => d as usize,
+        Character::Digit(d) => usize::from(d),
         Character::Minus => 10,
         Character::Blank => 11,
     };

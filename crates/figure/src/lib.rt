@@ -10,3 +10,4 @@ mod show;
 pub use character::Character;
 pub use figure::Figure;
 pub use reading::Reading;
+pub use show::show_number;

@@ -1,11 +1,12 @@
-ghost use Rattle.std.specs.Prelude.{◌≡◌, pos, is_some, IfSome, IfOk};
+ghost use Rattle.std.specs.Prelude.{◌≡◌, pos, is_ok, IfOk};
 ghost use Rattle.region_laws.specs.Boxes.{Smallest};
 ghost use Rattle.surface.specs.Answered.{Answered};
 ghost use Rattle.surface.specs.Settled.{Settled};
-ghost use Rattle.figure.specs.Figures.{accepts, figure as told_figure, fitting, told, Fresh, Drawn, changed, Showed};
+ghost use Rattle.figure.specs.Figures.{accepts, showing, figure as told_figure, fitting, told, Fresh, Drawn, changed, Showed};
+ghost use Rattle.figure.specs.Characters.{in_range};
 ghost use Rattle.figure.specs.Owed.{told_sound_lem};
 
-use crate::cells::{damage, has_ink};
+use crate::cells::has_ink;
 use crate::figure::Figure;
 use crate::reading::Reading;
 use pixel::Pixel;
@@ -28,18 +29,34 @@ impl<P: Pixel> Figure<P> {
     }
 }
 
-// The number that an order asks for.
-fn asked(o: Order) -> Option<Reading>
-    ensures taken { is_some result ≡ accepts o }
-    ensures shows { IfSome result (λ v. v.value ≡ o.a) }
+// The act of an order that shows a number.
+const SHOW: i32 = 3;
+
+// The order that lets a figure show a number.
+pub fn show_number(number: i32) -> Order
+    ensures is { result ≡ showing number }
+    ensures taken { accepts result ≡ in_range number }
 {
-    if o.act == 3 && o.b == 0 {
-        Reading::new(o.a)
-    } else {
-        None
+    Order {
+        act: SHOW,
+        a: number,
+        b: 0,
     }
 }
 
+// The number that an order asks for.
+fn asked(o: Order) -> Result<Reading, OrderRefused>
+    ensures taken { is_ok result ≡ accepts o }
+    ensures shows { IfOk result (λ v. v.value ≡ o.a) }
+{
+    if o.act == SHOW && o.b == 0 {
+        Reading::new(o.a).ok_or(OrderRefused)
+    } else {
+        Err(OrderRefused)
+    }
+}
+
+// A figure is a shelf by itself, as a sheet is: each tests for number 0, its only surface.
 impl<P: Pixel> Shelf<P> for Figure<P> {
     ghost tells = { told };
 
@@ -55,14 +72,10 @@ impl<P: Pixel> Shelf<P> for Figure<P> {
     }
 
     fn size(&self, k: u32) -> Option<Size> {
-        if k == 0 {
-            Some(Size {
-                width: 15 * self.scale,
-                height: 5 * self.scale,
-            })
-        } else {
-            None
-        }
+        (k == 0).then_some(Size {
+            width: 15 * self.scale,
+            height: 5 * self.scale,
+        })
     }
 
     fn pixel(&self, k: u32, x: u32, y: u32) -> Option<P> {
@@ -83,12 +96,7 @@ impl<P: Pixel> Shelf<P> for Figure<P> {
             return None;
         }
         if self.ink.is_solid() && self.paper.is_solid() {
-            Some(Rect {
-                left: 0,
-                top: 0,
-                right: 15 * self.scale,
-                bottom: 5 * self.scale,
-            })
+            Some(Rect::of_size(15 * self.scale, 5 * self.scale))
         } else {
             Some(Rect::NONE)
         }
@@ -103,13 +111,9 @@ impl<P: Pixel> Shelf<P> for Figure<P> {
         if k != 0 || z == 0 {
             return Err(OrderRefused);
         }
-        match asked(o) {
-            Some(next) => {
-                let hull = damage(self.shown, next, z);
-                self.shown = next;
-                Ok(hull)
-            }
-            None => Err(OrderRefused),
-        }
+        let next = asked(o)?;
+        let hull = self.shown.damage(next, z);
+        self.shown = next;
+        Ok(hull)
     }
 }

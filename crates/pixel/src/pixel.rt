@@ -8,7 +8,8 @@ pub trait Pixel: Copy {
     // whether a pixel hides whatever it is laid over
     ghost solid: { Self → Bool };
 
-    // whether two pixels are the same value
+    // whether two pixels are the same value: by the laws `alike` and `itself` identity, where the library's `Eq` is only
+    // an equivalence
     ghost equal: { Self → Self → Bool };
 
     // Lays this pixel over the one below.

@@ -15,19 +15,21 @@ struct Channels {
 }
 
 // Takes a pixel apart.
-fn unpack(p: u32) -> Channels
-    ensures { (result.a ≡ alpha p) × (result.r ≡ red p) × (result.g ≡ green p) × (result.b ≡ blue p) }
-{
-    let [a, r, g, b] = p.to_be_bytes();
-    Channels { a, r, g, b }
+impl From<u32> for Channels {
+    ghost from_gives = { λ p c. (c.a ≡ alpha p) × (c.r ≡ red p) × (c.g ≡ green p) × (c.b ≡ blue p) };
+
+    fn from(p: u32) -> Channels {
+        let [a, r, g, b] = p.to_be_bytes();
+        Channels { a, r, g, b }
+    }
 }
 
 // Lays a pixel over another, channel by channel.
 fn lay_pixel(s: u32, d: u32) -> u32
     ensures { result ≡ laid s d }
 {
-    let s = unpack(s);
-    let d = unpack(d);
+    let s = Channels::from(s);
+    let d = Channels::from(d);
     u32::from_be_bytes([
         lay_channel(s.a, d.a, s.a),
         lay_channel(s.r, d.r, s.a),
@@ -51,6 +53,7 @@ impl Pixel for u32 {
 
     ghost itself = { Prim.search rules };
 
+    #[tactic(auto, using(crate::proofs::Packing::laid_stays))]
     fn over(self, below: u32) -> u32
         ensures lays { result ≡ laid self below }
         ensures stays { premultiplied self ≡ true → premultiplied below ≡ true → premultiplied result ≡ true }
@@ -73,6 +76,6 @@ impl Pixel for u32 {
 pub fn is_premultiplied(p: u32) -> bool
     ensures { result ≡ premultiplied p }
 {
-    let c = unpack(p);
+    let c = Channels::from(p);
     c.r <= c.a && c.g <= c.a && c.b <= c.a
 }

@@ -1,12 +1,16 @@
 -- Turning a sheet to another page.
-use Rattle.std.proofs.Common.{◌≡◌, ℕ, ◌*◌, ◌<◌, Bool, true, false, eqb, List, Some, None, Option, sym, refl, ap, ◌∙◌, ⊎_elim, arith}
+use Rattle.std.specs.List.{list_all}
+use Rattle.std.proofs.Common.{◌≡◌, ℕ, ◌<◌, Bool, true, false, eqb, List, Some, None, Option, sym, refl, ap, ◌∙◌, ⊎_elim, arith}
 use Rattle.std.proofs.lemmas.Bool.{not-false, both_ways, cases_eq, eq-eqb, eqb-true}
+use Rattle.region_laws.specs.declared.rect.Rect.{Rect}
+use Rattle.surface.specs.Told.{has, passes}
 use Rattle.surface.specs.Damaged.{Damaged}
 use Rattle.surface.specs.Hull.{hull}
-use Rattle.surface.specs.Settled.{Settled}
-use Rattle.surface.proofs.Singles.{single_damaged}
-use Rattle.sheet.specs.Pages.{nth_page, pixel_at, each, alike, differs}
-use Rattle.sheet.specs.Sheets.{accepts, sheet, told, damage, Turned}
+use Rattle.surface.proofs.Singles.{single_damaged, hides_told}
+use Rattle.sheet.specs.Pages.{pixel_at, alike, differs}
+use Rattle.sheet.specs.Sheets.{accepts, sheet, told}
+use Rattle.sheet.specs.Owed.{told_sound_lem}
+use Rattle.sheet.specs.declared.sheet.Sheet.{Sheet}
 
 -- a sheet that is wide is high
 pub open_both : (w h : ℕ) → eqb w 0 ≡ eqb h 0 → (w ≡ 0 → ⊥) → 0 < h
@@ -23,22 +27,9 @@ module _ {P : Type 0} (equal : P → P → Bool) (law : (a b : P) → equal a b 
   -- what turning from one page to another damages
   pub turn_damaged : (hard : P → Bool) (w h n : ℕ) (old new : List P) (k : ℕ) → k ≡ 0 → Damaged (sheet hard w h n old) (sheet hard w h n new) k (hull (differs equal w old new) w h)
   turn_damaged hard w h n old new k k0 =
-      single_damaged w h (pixel_at old w) (pixel_at new w) (each hard old) (each hard new) (accepts n) (differs equal w old new) k k0
+      single_damaged w h (pixel_at old w) (pixel_at new w) (list_all hard old) (list_all hard new) (accepts n) (differs equal w old new) k k0
       (λ x y i j e. sym (alike_same _ _ (not-false _ e)))
 
--- the same memory and the same numbers tell the same
-same_sheet : {P : Type 0} (hard : P → Bool) (c c' : List P) (w w' h h' n n' p p' : ℕ) → c ≡ c' → w ≡ w' → h ≡ h' → n ≡ n' → p ≡ p'
-    → sheet hard w h n (nth_page c (w * h) p) ≡ sheet hard w' h' n' (nth_page c' (w' * h') p')
-same_sheet hard c c' w w' h h' n n' p p' ec ew eh en ep =
-    ap (λ v. sheet hard w h n (nth_page v (w * h) p)) ec ∙ ap (λ v. sheet hard v h n (nth_page c' (v * h) p)) ew ∙ ap (λ v. sheet hard w' v n (nth_page c' (w' * v) p)) eh
-    ∙ ap (λ v. sheet hard w' h' v (nth_page c' (w' * h') p)) en ∙ ap (λ v. sheet hard w' h' n' (nth_page c' (w' * h') v)) ep
-
--- an order leaves a sheet no choice
-pub turn_settled : {P : Type 0} (hard : P → Bool) (equal : P → P → Bool) → Settled (told hard) (Turned equal)
-turn_settled hard equal s t u k o b c p q =
-    let page : t.page ≡ u.page = cc in
-    let cells : t.cells.now ≡ u.cells.now = ap (λ v. v.now) (p.cells ∙ sym q.cells) in
-    record {
-      told = same_sheet hard _ _ _ _ _ _ _ _ _ _ cells (p.width ∙ sym q.width) (p.height ∙ sym q.height) (p.pages ∙ sym q.pages) page;
-      box = p.box ∙ ap (damage equal s) page ∙ sym q.box;
-    }
+-- a box that the sheet tells as solid covers solid pixels only
+pub shown_hides : {P : Type 0} (hard : P → Bool) (s : Sheet P) (k : ℕ) (r : Option Rect) (x y : ℕ) → r ≡ (told hard s).solid k → has r x y ≡ true → passes hard ((told hard s).pixel k x y) ≡ true
+shown_hides hard s k r x y e h = hides_told hard (told hard s) k r (told_sound_lem hard s) e x y h

@@ -1,5 +1,6 @@
 -- Sheets: what they tell, and what an order makes of them.
-use Rattle.std.specs.Prelude.{◌≡◌, ℕ, ◌*◌, Bool, cond, ◌&&◌, List, [], length, pos, ◌==◌, int_le, int_lt, nat_le}
+use Rattle.std.specs.Prelude.{◌≡◌, ℕ, ◌*◌, Bool, cond, ◌&&◌, List, [], length, ℤ, pos, ◌==◌, int_le, int_lt, nat_le}
+use Rattle.std.specs.List.{list_all}
 use Rattle.region_laws.specs.declared.rect.Rect.{Rect}
 use Rattle.region_laws.specs.Boxes.{Places}
 use Rattle.surface.specs.declared.order.Order.{Order}
@@ -7,15 +8,19 @@ use Rattle.surface.specs.Told.{Told}
 use Rattle.surface.specs.Hull.{hull, cut}
 use Rattle.surface.specs.Single.{single}
 use Rattle.sheet.specs.declared.sheet.Sheet.{Sheet}
-use Rattle.sheet.specs.Pages.{nth_page, pixel_at, each, differs}
+use Rattle.sheet.specs.Pages.{nth_page, pixel_at, differs}
 
 -- act 1, b = 0, and a from 0 and below the number of pages n
 abbrev pub accepts : ℕ → Order → Bool
 accepts n o = (int_le (pos 1) o.act && int_le o.act (pos 1)) && ((int_le (pos 0) o.b && int_le o.b (pos 0)) && (int_le (pos 0) o.a && int_lt o.a (pos n)))
 
+-- the order that turns a sheet to page p
+abbrev pub turning : ℤ → Order
+turning p = record { act = pos 1; a = p; b = pos 0 }
+
 -- what a sheet of w by h and n pages tells, while it shows this page
 abbrev pub sheet : {P : Type 0} → (P → Bool) → ℕ → ℕ → ℕ → List P → Told P
-sheet hard w h n page = single w h (pixel_at page w) (each hard page) (accepts n)
+sheet hard w h n page = single w h (pixel_at page w) (list_all hard page) (accepts n)
 
 -- page p of a sheet, and the page that it shows
 abbrev pub page_of : {P : Type 0} → Sheet P → ℕ → List P

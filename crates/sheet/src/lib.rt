@@ -1,7 +1,9 @@
 #![tactic(auto)]
 
-mod scan;
+mod page;
+mod pages;
 mod sheet;
 mod turn;
 
 pub use sheet::Sheet;
+pub use turn::turn_to;

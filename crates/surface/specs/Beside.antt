@@ -1,20 +1,20 @@
 -- Two shelves side by side.
-use Rattle.std.specs.Prelude.{◌≡◌, ℕ, ◌+◌, ◌-◌, ◌<◌, min, false, cond, None, nat_lt}
+use Rattle.std.specs.Prelude.{◌≡◌, ℕ, ◌+◌, ◌-◌, ◌<◌, min, false, cond, Option, Some, None, nat_lt}
 use Rattle.surface.specs.declared.order.Order.{Order}
 use Rattle.surface.specs.declared.pair.Part.{Part}
-use Rattle.surface.specs.declared.pair.Part.TheVariants.{First, Second, Neither}
+use Rattle.surface.specs.declared.pair.Part.TheVariants.{First, Second}
 use Rattle.surface.specs.Told.{Told}
 
 -- which part has surface k, and under which number, where the first has n surfaces: the first's numbers stay, the
 -- second's follow, and nothing is reached from 255 on
-abbrev pub part : ℕ → ℕ → Part
-part n k = cond (nat_lt k n) (First k) (cond (nat_lt k 255) (Second (k - n)) Neither)
+abbrev pub part : ℕ → ℕ → Option Part
+part n k = cond (nat_lt k n) (Some (First k)) (cond (nat_lt k 255) (Some (Second (k - n))) None)
 
 -- what that part tells: f of the first, g of the second, or none of either
-abbrev pub from : {X : Type 0} → Part → (ℕ → X) → (ℕ → X) → X → X
-from Neither f g none = none
-from (First j) f g none = f j
-from (Second j) f g none = g j
+abbrev pub from : {X : Type 0} → Option Part → (ℕ → X) → (ℕ → X) → X → X
+from None f g none = none
+from (Some (First j)) f g none = f j
+from (Some (Second j)) f g none = g j
 
 -- what a pair tells
 abbrev pub beside : {P : Type 0} → Told P → Told P → Told P

@@ -1,16 +1,16 @@
 -- The proof, which a pair carries in its meaning, that two shelves side by side keep what every shelf owes. It says
 -- nothing more than the type of `beside_sound`.
-use Rattle.std.specs.Prelude.{◌≡◌, ℕ, ◌+◌, ◌-◌, ◌<◌, ◌≤◌, min, Bool, true, false, is_some, None, Option, nat_lt, refl}
+use Rattle.std.specs.Prelude.{◌≡◌, ℕ, ◌+◌, ◌-◌, ◌<◌, ◌≤◌, min, Bool, true, false, is_some, Some, None, Option, nat_lt, refl}
 use Rattle.std.proofs.Common.{arith, sym, ◌∙◌, ⊎_elim}
 use Rattle.std.proofs.lemmas.Bool.{ltb-true, ltb-false, lt-ltb, le-ltb, cases_lt, cond_both, both_ways}
 use Rattle.surface.specs.declared.pair.Part.{Part}
-use Rattle.surface.specs.declared.pair.Part.TheVariants.{First, Second, Neither}
+use Rattle.surface.specs.declared.pair.Part.TheVariants.{First, Second}
 use Rattle.surface.specs.Told.{Told, on, opened, fair, has, passes}
 use Rattle.surface.specs.Sound.{Sound, boxed}
 use Rattle.surface.specs.Beside.{part, from, beside}
 
 -- a fact of the part that has surface k, by its three cases
-pub by_part : (n k : ℕ) (Q : Part → Type 0) → (k < n → Q (First k)) → (n ≤ k → k < 255 → Q (Second (k - n))) → (n ≤ k → 255 ≤ k → Q Neither) → Q (part n k)
+pub by_part : (n k : ℕ) (Q : Option Part → Type 0) → (k < n → Q (Some (First k))) → (n ≤ k → k < 255 → Q (Some (Second (k - n)))) → (n ≤ k → 255 ≤ k → Q None) → Q (part n k)
 by_part n k Q f g h = cond_both (nat_lt k n) _ _ Q
     (λ e. f (ltb-true k n e))
     (λ e. cond_both (nat_lt k 255) _ _ Q (λ i. g (ltb-false k n e) (ltb-true k 255 i)) (λ i. h (ltb-false k n e) (ltb-false k 255 i)))

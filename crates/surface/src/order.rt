@@ -1,4 +1,5 @@
-// What a caller asks of one surface: what to do, and two numbers whose meaning is the surface's own.
+// What a caller asks of one surface: what to do, and two numbers. What the three mean is the surface's own, so `act` is a
+// number and no enum.
 #[derive(Clone, Copy, PartialEq, Eq, Debug)]
 pub struct Order {
     pub act: i32,

@@ -1,4 +1,4 @@
-ghost use Rattle.std.specs.Prelude.{◌≡◌, min};
+ghost use Rattle.std.specs.Prelude.{◌≡◌};
 ghost use Rattle.surface.specs.Beside.{part as place, Parts};
 ghost use Rattle.surface.specs.Paired.{paired, PairBecomes, PairSettles};
 ghost use Rattle.surface.specs.PairOwed.{beside_sound};
@@ -22,29 +22,23 @@ pub struct Pair<A, B> {
 enum Part {
     First(u32),
     Second(u32),
-    Neither,
 }
 
-// How many surfaces of this many can be reached.
-fn capped(sum: u32) -> u32
-    ensures { result ≡ min 255 sum }
-{
-    sum.min(255)
-}
-
-// The part that has surface k, where the first part has n surfaces.
-fn find_part(n: u32, k: u32) -> Part
+// The part that has surface k, if any has it, where the first part has n surfaces.
+fn find_part(n: u32, k: u32) -> Option<Part>
     ensures { result ≡ place n k }
 {
     if k < n {
-        Part::First(k)
+        Some(Part::First(k))
     } else if k < 255 {
-        Part::Second(k - n)
+        Some(Part::Second(k - n))
     } else {
-        Part::Neither
+        None
     }
 }
 
+// Each method asks the part that has the surface. The parts are of two types, so that no one function could take the
+// question as a closure.
 impl<P: Pixel, A: Shelf<P>, B: Shelf<P>> Shelf<P> for Pair<A, B> {
     ghost tells = { λ hard s. paired (A.Shelf.tells hard) (B.Shelf.tells hard) s };
 
@@ -57,38 +51,34 @@ impl<P: Pixel, A: Shelf<P>, B: Shelf<P>> Shelf<P> for Pair<A, B> {
         ensures parts { Parts (A.Shelf.tells P.Pixel.solid self.now.first) (B.Shelf.tells P.Pixel.solid self.now.second) (paired (A.Shelf.tells P.Pixel.solid) (B.Shelf.tells P.Pixel.solid) self.now) }
         ensures settled { PairSettles (A.Shelf.tells P.Pixel.solid) (B.Shelf.tells P.Pixel.solid) A.Shelf.becomes B.Shelf.becomes }
     {
-        capped(self.first.count() + self.second.count())
+        (self.first.count() + self.second.count()).min(255)
     }
 
     fn size(&self, k: u32) -> Option<Size> {
-        match find_part(self.first.count(), k) {
+        match find_part(self.first.count(), k)? {
             Part::First(j) => self.first.size(j),
             Part::Second(j) => self.second.size(j),
-            Part::Neither => None,
         }
     }
 
     fn pixel(&self, k: u32, x: u32, y: u32) -> Option<P> {
-        match find_part(self.first.count(), k) {
+        match find_part(self.first.count(), k)? {
             Part::First(j) => self.first.pixel(j, x, y),
             Part::Second(j) => self.second.pixel(j, x, y),
-            Part::Neither => None,
         }
     }
 
     fn solid(&self, k: u32) -> Option<Rect> {
-        match find_part(self.first.count(), k) {
+        match find_part(self.first.count(), k)? {
             Part::First(j) => self.first.solid(j),
             Part::Second(j) => self.second.solid(j),
-            Part::Neither => None,
         }
     }
 
     fn order(&mut self, k: u32, o: Order) -> Result<Rect, OrderRefused> {
-        match find_part(self.first.count(), k) {
+        match find_part(self.first.count(), k).ok_or(OrderRefused)? {
             Part::First(j) => self.first.order(j, o),
             Part::Second(j) => self.second.order(j, o),
-            Part::Neither => Err(OrderRefused),
         }
     }
 }

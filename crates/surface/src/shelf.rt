@@ -11,7 +11,7 @@ use pixel::Pixel;
 use region_laws::Rect;
 
 // A shelf: 1 to 255 surfaces, numbered from 0, whose count and sizes are fixed for life. One surface is a shelf of
-// count 1.
+// count 1. A place is its two numbers x and y, as loops count them: no fact ties the two.
 pub trait Shelf<P: Pixel> {
     // what the shelf tells, given which pixels are solid
     ghost tells: { (P → Bool) → Self → Told P };
@@ -34,7 +34,8 @@ pub trait Shelf<P: Pixel> {
     fn pixel(&self, k: u32, x: u32, y: u32) -> Option<P>
         ensures { result ≡ (tells P.Pixel.solid self.now).pixel k x y };
 
-    // A box of surface k in which every pixel is solid, or None where there is no such surface.
+    // A box of surface k in which every pixel is solid, of no pixel where none is known; or None where there is no such
+    // surface.
     fn solid(&self, k: u32) -> Option<Rect>
         ensures told { result ≡ (tells P.Pixel.solid self.now).solid k }
         ensures hides { (x y : ℕ) → has result x y ≡ true → passes P.Pixel.solid ((tells P.Pixel.solid self.now).pixel k x y) ≡ true };
