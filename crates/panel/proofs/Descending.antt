@@ -1,6 +1,6 @@
 -- Going down the stack at a place.
 use Rattle.std.proofs.Common.{◌≡◌, ℕ, ◌+◌, ◌-◌, ◌<◌, ◌≤◌, Bool, true, false, cond, eqb, ◌⊎◌, List, length, get_or, take, is_some, Some, None, Option, sym, refl, ap, ◌∙◌, subst, inl, inr, arith, take_all}
-use Rattle.std.proofs.lemmas.List.{get_or-take, length-take}
+use Rattle.std.proofs.lemmas.List.{get_or-take, length-take, take-take}
 use Rattle.std.proofs.lemmas.List.Sums.{fold_more}
 use Rattle.std.proofs.lemmas.Bool.{cases_lt, or_right}
 use Rattle.panel.specs.declared.sight.Spot.{Spot}
@@ -80,31 +80,41 @@ module _ (ss : List Sight) (x y : ℕ) where
       let f = g.few in
       record { within = omega arith; begins = refl; above = λ j h k. g.clear j (omega arith) k; counted = omega arith; few = omega arith }
 
--- the same, over the first n of an array
-module _ (all : List Sight) (n : ℕ) (few : n ≤ length all) (x y : ℕ) where
-  pub long : length (take n all) ≡ n
-  long = simp length-take (omega arith)
+-- the same, over the list of those that are left
+pub record Left (ss : List Sight) (x y : ℕ) (rest : List Sight) (laid : ℕ) : Type 0 where
+  pub lower : rest ≡ take (length rest) ss
+  pub going : Going ss x y (length rest) laid
 
-  at : (i : ℕ) → 0 < i → i ≤ n → get_or (take n all) (i - 1) no_sight ≡ get_or all (i - 1) no_sight
-  at i p q = get_or-take n all (i - 1) no_sight (omega arith)
+pub left_all : (ss : List Sight) (x y : ℕ) → Left ss x y ss 0
+left_all ss x y = record { lower = sym (take_all (length ss) ss (omega arith)); going = going_begins ss x y (length ss) refl }
 
-  pub first_begins : Going (take n all) x y n 0
-  first_begins = going_begins (take n all) x y n (sym long)
+module _ (ss rest : List Sight) (x y laid : ℕ) (g : Left ss x y rest laid) (low : 1 ≤ length rest) where
+  within : length rest ≤ length ss
+  within = let f = g.going.few in omega arith
 
-  pub first_past : (i laid : ℕ) (o : Option Spot) → 0 < i → i ≤ n → o ≡ spot_at x y (get_or all (i - 1) no_sight) → o ≡ None → Going (take n all) x y i laid → Going (take n all) x y (i - 1) laid
-  first_past i laid o p q e f g = let l = long in going_past (take n all) x y i laid p (omega arith) (ap (spot_at x y) (at i p q) ∙ (sym e ∙ f)) g
+  shorter : length (take (length rest - 1) rest) ≡ length rest - 1
+  shorter = simp length-take (omega arith)
 
-  pub first_met : (i laid : ℕ) (o : Option Spot) (a : Spot) (c : Bool) → 0 < i → i ≤ n → o ≡ spot_at x y (get_or all (i - 1) no_sight) → o ≡ Some a → c ≡ covered_by (Some a) (get_or all (i - 1) no_sight).solid → c ≡ false
-      → Going (take n all) x y i laid → Going (take n all) x y (i - 1) (laid + 1)
-  first_met i laid o a c p q e f h k g =
-      let l = long in
-      going_met (take n all) x y i laid a p (omega arith) (ap (spot_at x y) (at i p q) ∙ (sym e ∙ f)) (ap (λ s. covered_by (Some a) s.solid) (at i p q) ∙ (sym h ∙ k)) g
+  top : get_or ss (length rest - 1) no_sight ≡ get_or rest (length rest - 1) no_sight
+  top = sym (ap (λ r. get_or r (length rest - 1) no_sight) g.lower ∙ get_or-take (length rest) ss (length rest - 1) no_sight (omega arith))
 
-  pub first_shut : (i laid : ℕ) (o : Option Spot) (a : Spot) (c : Bool) → 0 < i → i ≤ n → n ≤ 16 → o ≡ spot_at x y (get_or all (i - 1) no_sight) → o ≡ Some a → c ≡ covered_by (Some a) (get_or all (i - 1) no_sight).solid → c ≡ true
-      → Going (take n all) x y i laid → Descends (take n all) x y (i - 1) (laid + 1)
-  first_shut i laid o a c p q r e f h k g =
-      let l = long in
-      going_shut (take n all) x y i laid a p (omega arith) (omega arith) (ap (spot_at x y) (at i p q) ∙ (sym e ∙ f)) (ap (λ s. covered_by (Some a) s.solid) (at i p q) ∙ (sym h ∙ k)) g
+  fewer : (m : ℕ) → Going ss x y (length rest - 1) m → Left ss x y (take (length rest - 1) rest) m
+  fewer m h = record {
+    lower = ap (take (length rest - 1)) g.lower ∙ take-take (length rest - 1) (length rest) ss (omega arith) ∙ ap (λ k. take k ss) (sym shorter);
+    going = subst (λ k. Going ss x y k m) (sym shorter) h;
+  }
 
-  pub first_ends : (laid i : ℕ) → i ≤ 0 → n ≤ 16 → Going (take n all) x y i laid → Descends (take n all) x y 0 laid
-  first_ends laid i z r g = let l = long in going_ends (take n all) x y laid (omega arith) (subst (λ v. Going (take n all) x y v laid) (omega arith) g)
+  pub left_past : (o : Option Spot) → o ≡ spot_at x y (get_or rest (length rest - 1) no_sight) → o ≡ None → Left ss x y (take (length rest - 1) rest) laid
+  left_past o e f = fewer laid (going_past ss x y (length rest) laid low within (ap (spot_at x y) top ∙ sym e ∙ f) g.going)
+
+  module _ (o : Option Spot) (a : Spot) (c : Bool) (e : o ≡ spot_at x y (get_or rest (length rest - 1) no_sight)) (f : o ≡ Some a) (h : c ≡ covered_by (Some a) (get_or rest (length rest - 1) no_sight).solid) where
+    pub left_met : c ≡ false → Left ss x y (take (length rest - 1) rest) (laid + 1)
+    left_met k = fewer (laid + 1) (going_met ss x y (length rest) laid a low within (ap (spot_at x y) top ∙ sym e ∙ f) (ap (λ s. covered_by (Some a) s.solid) top ∙ sym h ∙ k) g.going)
+
+    pub left_shut : length ss ≤ 16 → c ≡ true → Descends ss x y (length (take (length rest - 1) rest)) (laid + 1)
+    left_shut few k =
+        subst (λ n. Descends ss x y n (laid + 1)) (sym shorter)
+        (going_shut ss x y (length rest) laid a low within few (ap (spot_at x y) top ∙ sym e ∙ f) (ap (λ s. covered_by (Some a) s.solid) top ∙ sym h ∙ k) g.going)
+
+pub left_none : (ss rest : List Sight) (x y laid : ℕ) → length ss ≤ 16 → length rest < 1 → Left ss x y rest laid → Descends ss x y 0 laid
+left_none ss rest x y laid few none g = going_ends ss x y laid few (subst (λ n. Going ss x y n laid) (omega arith) g.going)

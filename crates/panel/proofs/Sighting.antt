@@ -1,6 +1,5 @@
 -- The sights of a stack make its whole picture.
-use Rattle.std.proofs.Common.{◌≡◌, ℕ, ◌+◌, ◌<◌, ◌≤◌, Bool, true, false, cond, ◌&&◌, ltb, leb, List, [], ◌∷◌, ◌++◌, map, length, get_or, take, set, is_some, Some, None, fold, Option, sym, refl, ap, ◌∙◌, arith, take_all}
-use Rattle.std.proofs.lemmas.List.{take_more_set, map_more}
+use Rattle.std.proofs.Common.{◌≡◌, ℕ, ◌+◌, Bool, true, false, cond, ◌&&◌, ltb, leb, List, [], ◌∷◌, map, is_some, Some, None, fold, Option, sym, refl, ap, ◌∙◌, arith}
 use Rattle.std.proofs.lemmas.Bool.Decides.{nat_tests}
 use Rattle.region_laws.specs.Boxes.{inside}
 use Rattle.region_laws.specs.declared.rect.Rect.{Rect}
@@ -10,23 +9,12 @@ use Rattle.surface.specs.Sound.{Sound, boxed}
 use Rattle.reference.specs.declared.pane.Pane.{Pane}
 use Rattle.reference.specs.Places.{past, whole_box, surface_box}
 use Rattle.reference.specs.Picture.{pixel_at, solid_at, pane_at, covers, hides, laid_over, deeper}
-use Rattle.panel.specs.declared.sight.Spot.{Spot}
-use Rattle.panel.specs.declared.sight.Sight.{Sight}
 use Rattle.panel.specs.Sights.{sight, spot, between, spot_of, box_or, covered_by, meets, blocks, pixel_at_spot, sight_pixel}
-
--- one pane more is looked at
-pub seen_more : (f : Pane → Sight) (ps : List Pane) (all : List Sight) (i : ℕ) (z : Pane) (s : Sight) → i < length ps → i < length all → take i all ≡ map f (take i ps) → s ≡ f (get_or ps i z)
-    → take (i + 1) (set all i s) ≡ map f (take (i + 1) ps)
-seen_more f ps all i z s h k e q =
-    take_more_set all i s k ∙ (ap (λ v. v ++ s ∷ []) e ∙ (ap (λ v. map f (take i ps) ++ v ∷ []) q ∙ sym (map_more f ps i z h)))
 
 -- the box of a surface covers a place just where there is a pixel
 on_size : (z : Option Size) (i j : ℕ) → inside (whole_box z) i j ≡ on z i j
 on_size None i j = grind (arith, nat_tests)
 on_size (Some z) i j = grind (arith, nat_tests)
-
-spot_in : (b : Rect) (i j : Option ℕ) → Option Spot
-spot_in b i j = spot_of (between b.left b.right i) (between b.top b.bottom j)
 
 both_in : (b : Rect) (i j : ℕ) → spot_of (between b.left b.right (Some i)) (between b.top b.bottom (Some j)) ≡ cond (inside b i j) (Some (spot i j)) None
 both_in b i j = go (leb b.left i && ltb i b.right) (leb b.top j && ltb j b.bottom)
@@ -134,7 +122,3 @@ module _ {P : Type 0} (hard : P → Bool) (t : Told P) (sound : Sound hard t) wh
         (ap (λ b. laid_over lay (cond b base d) (sight_pixel t x y (sight t p))) (blocks_is x y p)
         ∙ (ap (laid_over lay (cond (hides t x y p) base d)) (pixel_is x y p) ∙ anew base d (hides t x y p) (pane_at t x y p) (solid_at_lem p.surface (past x p.x) (past y p.y))))
         ∙ composed_is base (laid_over lay d (pane_at t x y p)) ps x y
-
--- all panes were looked at
-pub seen_all : (f : Pane → Sight) (ps qs : List Pane) (all : List Sight) (i : ℕ) → length ps ≤ i → i ≤ length ps → ps ≡ qs → take i all ≡ map f (take i ps) → take (length ps) all ≡ map f qs
-seen_all f ps qs all i h k q e = (let z : length ps ≡ i = omega arith in ap (λ n. take n all) z) ∙ (e ∙ (ap (map f) (take_all i ps h) ∙ ap (map f) q))

@@ -1,5 +1,5 @@
 -- What the calls of a panel promise.
-use Rattle.std.specs.Prelude.{◌≡◌, ℕ, List, [], ◌∷◌, ℤ, pos, negsuc, Some, None, Ok, Err, Option, Result, MatchResult}
+use Rattle.std.specs.Prelude.{◌≡◌, ℕ, cond, List, [], ◌∷◌, ℤ, pos, negsuc, Some, None, Option, Result, MatchResult}
 use Rattle.region_laws.specs.Boxes.{no_box}
 use Rattle.region_laws.specs.Counted.{area, list_sum}
 use Rattle.region_laws.specs.declared.rect.Rect.{Rect}
@@ -17,6 +17,7 @@ use Rattle.reference.specs.declared.refusal.Refusal.{Refusal}
 use Rattle.reference.specs.Stack.{height_of}
 use Rattle.reference.specs.Places.{surface_box}
 use Rattle.reference.specs.Picture.{picture, depth}
+use Rattle.reference.specs.Answers.{said, said_of}
 use Rattle.reference.specs.Refusals.{known, natural, refusal, open_refusal}
 use Rattle.reference.specs.Damage.{opening, stated, shifted}
 use Rattle.reference.specs.Steps.{next, telling_at}
@@ -24,15 +25,14 @@ use Rattle.reference.specs.Painting.{RegionPainted}
 use Rattle.reference.specs.History.{Event, World}
 use Rattle.reference.specs.Kept.{Kept, event}
 use Rattle.scene.specs.States.{state_of}
-use Rattle.panel.specs.declared.sight.Known.{Known}
+use Rattle.scene.specs.Checks.{accepted}
+use Rattle.scene.specs.declared.known.Known.{Known}
 use Rattle.panel.specs.declared.panel.Panel.{Panel}
 use Rattle.panel.specs.declared.panel.Unopened.{Unopened}
 
--- the surface that a number names
-pub record Finds {P : Type 0} (t : Told P) (k : ℤ) (r : Known) : Type 0 where
-  pub there_is : r.there ≡ known t k
-  pub number_is : r.number ≡ natural k
-  pub whole_is : r.whole ≡ surface_box t (natural k)
+-- the surface that a number names, if the shelf has it and it is not closed
+abbrev pub found : {P : Type 0} → Told P → ℤ → Option Known
+found t k = cond (known t k) (Some (record { number = natural k; whole = surface_box t (natural k) })) None
 
 -- What pixels, shelf and chain of a panel mean: how pixels are laid, what the shelf tells, what an order makes of it,
 -- and what the chain tells.
@@ -44,19 +44,6 @@ pub record Meaning (P S C : Type 0) : Type 1 where
 
 abbrev pub meaning : {P S C : Type 0} → (P → P → P) → (S → Told P) → (S → ℕ → Order → Rect → S → Type 0) → (C → Screens P) → Meaning P S C
 meaning lay tells becomes screens = record { lay = lay; tells = tells; becomes = becomes; screens = screens }
-
--- how a call that is neither tell nor show answers, and what is told of it
-abbrev pub accepted : Option Refusal → Result (Unit {0}) Refusal
-accepted None = Ok tt
-accepted (Some r) = Err r
-
-abbrev pub said : Result (Unit {0}) Refusal → Answer
-said (Ok v) = answers.Done
-said (Err r) = answers.Refused r
-
-abbrev pub said_of : Result Rect Refusal → Answer
-said_of (Ok d) = answers.Damaged d
-said_of (Err r) = answers.Refused r
 
 module _ {P S C : Type 0} (m : Meaning P S C) where
   -- what the events of a panel are judged by

@@ -1,3 +1,4 @@
 pub mod Sights
 pub mod Paints
+pub mod Tallies
 pub mod Calls

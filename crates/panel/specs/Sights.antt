@@ -1,5 +1,5 @@
 -- The picture as a show composes it from what it asked once of each pane.
-use Rattle.std.specs.Prelude.{◌≡◌, ℕ, ◌+◌, ◌<◌, ◌≤◌, Bool, true, false, cond, ◌&&◌, ◌||◌, List, length, take, is_some, Some, None, fold, Option, ◌==◌, nat_le, nat_lt, slice_index_or}
+use Rattle.std.specs.Prelude.{◌≡◌, ℕ, ◌+◌, ◌<◌, ◌≤◌, Bool, true, false, cond, ◌&&◌, ◌||◌, List, length, is_some, Some, None, fold, Option, ◌==◌, nat_le, nat_lt, slice_index_or}
 use Rattle.region_laws.specs.Boxes.{inside, no_box}
 use Rattle.region_laws.specs.declared.rect.Rect.{Rect}
 use Rattle.surface.specs.Told.{Told}
@@ -27,7 +27,7 @@ abbrev pub no_sight : Sight
 no_sight = record { pane = no_pane; whole = no_box; solid = no_box }
 
 abbrev pub sights_of : Sights → List Sight
-sights_of s = take s.count s.all
+sights_of s = s.all.items
 
 -- an offset from l up to and without r
 abbrev pub between : ℕ → ℕ → Option ℕ → Option ℕ

@@ -9,7 +9,10 @@ use reference::{Refusal, Shown};
 use region::Rect;
 use surface::{Order, Shelf};
 
-// The calls of a panel. Each meets the first refusal that applies, or none; a refused one alters nothing.
+// The calls of a panel, with their numbers one by one, as a caller has them. Each meets the first refusal that applies, or
+// none; a refused one alters nothing. All but the last hand on to a function of working.rt that promises the same: its
+// proof is given in files, so that only here a wrong body is refused by the contract alone. `meaning ..` puts together what the three bounds mean; a trait with that as its
+// ghost member would be named by a quote no plainer, `⟦<Panel<P, S, C> as Means<P, S, C>>⟧.meaning`, and have no method.
 impl<P: Pixel, S: Shelf<P>, C: Chain<P>> Panel<P, S, C> {
     // Puts a surface on top of the stack, its upper left corner at (x, y).
     pub fn place(&mut self, surface: i32, x: i32, y: i32) -> Result<(), Refusal>
@@ -58,9 +61,8 @@ impl<P: Pixel, S: Shelf<P>, C: Chain<P>> Panel<P, S, C> {
         ensures pixel { result ≡ front_at (meaning P.Pixel.lay (S.Shelf.tells P.Pixel.solid) S.Shelf.becomes C.Chain.tells) (C.Chain.tells self.old.chain) x y }
         ensures asked { Asked (meaning P.Pixel.lay (S.Shelf.tells P.Pixel.solid) S.Shelf.becomes C.Chain.tells) self.old self.new }
     {
-        if x < 0 || y < 0 {
-            return None;
-        }
-        self.chain.front_pixel(x as u32, y as u32)
+        let x = u32::try_from(x).ok()?;
+        let y = u32::try_from(y).ok()?;
+        self.chain.front_pixel(x, y)
     }
 }

@@ -1,28 +1,15 @@
-ghost use Rattle.std.specs.Prelude.{◌≡◌, ℕ, ◌≤◌, Bool, true};
-ghost use Rattle.region_laws.specs.Boxes.{inside};
+ghost use Rattle.std.specs.Prelude.{◌≡◌};
 ghost use Rattle.reference.specs.Places.{past};
 ghost use Rattle.panel.specs.Sights.{between as kept, spot_at, sights_of, Descends};
 
 use crate::sight::{Descent, Sight, Sights, Spot};
-use region::Rect;
 
 // How far `at` lies past `from`, if that is from `low` up to and without `high`.
 fn offset(at: u32, from: i32, low: u32, high: u32) -> Option<u32>
     ensures { result ≡ kept low high (past at from) }
 {
-    let d = i64::from(at) - i64::from(from);
-    if d >= i64::from(low) && d < i64::from(high) {
-        Some(d as u32)
-    } else {
-        None
-    }
-}
-
-// Whether a box covers a place.
-fn covers(b: Rect, at: Spot) -> bool
-    ensures { result ≡ inside b at.x at.y }
-{
-    b.left <= at.x && at.x < b.right && b.top <= at.y && at.y < b.bottom
+    let d = u32::try_from(i64::from(at) - i64::from(from)).ok()?;
+    (low <= d && d < high).then_some(d)
 }
 
 impl Sight {
@@ -30,12 +17,8 @@ impl Sight {
     pub(crate) fn spot(&self, x: u32, y: u32) -> Option<Spot>
         ensures { result ≡ spot_at x y self.now }
     {
-        let Some(x) = offset(x, self.pane.x, self.whole.left, self.whole.right) else {
-            return None;
-        };
-        let Some(y) = offset(y, self.pane.y, self.whole.top, self.whole.bottom) else {
-            return None;
-        };
+        let x = offset(x, self.pane.x, self.whole.left, self.whole.right)?;
+        let y = offset(y, self.pane.y, self.whole.top, self.whole.bottom)?;
         Some(Spot { x, y })
     }
 }
@@ -46,12 +29,15 @@ impl Sights {
         ensures { Descends (sights_of self.now) x y result.from result.laid }
     {
         let mut laid = 0;
-        for i in (0..self.count).rev() {
-            let sight = self.all[i];
+        // from the top down by slices: where the way ends, what is left has the height to begin at
+        let mut rest = self.all.as_slice();
+        while let [below @ .., sight] = rest {
+            rest = below;
             if let Some(at) = sight.spot(x, y) {
                 laid += 1;
-                if covers(sight.solid, at) {
-                    return Descent { from: i, laid };
+                if sight.solid.covers(at.x, at.y) {
+                    let from = rest.len();
+                    return Descent { from, laid };
                 }
             }
         }

@@ -18,10 +18,7 @@ fn check<P: Pixel, C: Chain<P>>(chain: &mut C) -> Result<Display, Refusal>
 {
     let width = chain.width();
     let height = chain.height();
-    match Display::new(width, height) {
-        Some(display) => Ok(display),
-        None => Err(Refusal::BadDisplay),
-    }
+    Display::new(width, height).ok_or(Refusal::BadDisplay)
 }
 
 impl<P: Pixel, S: Shelf<P>, C: Chain<P>> Panel<P, S, C> {
@@ -42,11 +39,11 @@ impl<P: Pixel, S: Shelf<P>, C: Chain<P>> Panel<P, S, C> {
     }
 
     // Opens a panel on a shelf, a chain and a base pixel: nothing is on the stack, and the whole display is pending.
-    pub fn open(shelf: S, chain: C, base: P) -> Result<Panel<P, S, C>, Unopened<S, C>>
+    pub fn open(shelf: S, mut chain: C, base: P) -> Result<Panel<P, S, C>, Unopened<S, C>>
         ensures { MatchResult result (λ p. Opened (meaning P.Pixel.lay (S.Shelf.tells P.Pixel.solid) S.Shelf.becomes C.Chain.tells) shelf chain base p)
             (λ u. HandedBack (meaning P.Pixel.lay (S.Shelf.tells P.Pixel.solid) S.Shelf.becomes C.Chain.tells) shelf chain u) }
     {
-        let mut chain = chain;
+        // a match and no `?`: both answers take shelf and chain with them
         match check::<P, C>(&mut chain) {
             Ok(display) => Ok(Panel::make(shelf, chain, base, display)),
             Err(refusal) => Err(Unopened {

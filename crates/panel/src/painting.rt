@@ -1,4 +1,4 @@
-ghost use Rattle.std.specs.Prelude.{◌≡◌, ℕ, ◌+◌, ◌≤◌, List, drop};
+ghost use Rattle.std.specs.Prelude.{◌≡◌, ◌+◌, ◌≤◌, drop};
 ghost use Rattle.region_laws.specs.Boxes.{box, inside};
 ghost use Rattle.region.specs.Lists.{list_of};
 ghost use Rattle.reference.specs.Picture.{laid_over};
@@ -15,8 +15,8 @@ use surface::Shelf;
 
 impl<P: Pixel, S: Shelf<P>, C: Chain<P>> Panel<P, S, C> {
     // Lays a pane's pixel at (x, y), if it covers that place, over d.
-    fn lay_one(&self, sight: Sight, d: P, x: u32, y: u32) -> P
-        ensures { result ≡ laid_over P.Pixel.lay d (sight_pixel (S.Shelf.tells P.Pixel.solid self.now.shelf) x y sight) }
+    fn lay_one(&self, sight: &Sight, d: P, x: u32, y: u32) -> P
+        ensures { result ≡ laid_over P.Pixel.lay d (sight_pixel (S.Shelf.tells P.Pixel.solid self.now.shelf) x y sight.now) }
     {
         let Some(at) = sight.spot(x, y) else {
             return d;
@@ -31,16 +31,10 @@ impl<P: Pixel, S: Shelf<P>, C: Chain<P>> Panel<P, S, C> {
     fn lay_up(&self, sights: &Sights, from: usize, x: u32, y: u32) -> P
         ensures { result ≡ over_from P.Pixel.lay (S.Shelf.tells P.Pixel.solid self.now.shelf) x y self.now.base (drop from (sights_of sights.now)) }
     {
-        let mut d = self.base;
-        let count = sights.count;
-        for i in from..count {
-            d = self.lay_one(sights.all[i], d, x, y);
-        }
-        d
+        let upper = sights.all.as_slice().iter().skip(from);
+        upper.fold(self.base, |d, sight| self.lay_one(sight, d, x, y))
     }
-}
 
-impl<P: Pixel, S: Shelf<P>, C: Chain<P>> Panel<P, S, C> {
     // The pixel of the whole picture at (x, y), from the first pane whose solid box covers it, and the panes laid.
     fn compose(&self, sights: &Sights, x: u32, y: u32) -> Composed<P>
         ensures pixel { result.pixel ≡ composed P.Pixel.lay (S.Shelf.tells P.Pixel.solid self.now.shelf) self.now.base (sights_of sights.now) x y }
@@ -59,52 +53,45 @@ impl<P: Pixel, S: Shelf<P>, C: Chain<P>> Panel<P, S, C> {
         ensures few { result ≤ 16 }
         ensures rest { ChainOnly self.old self.new }
     {
-        let c = self.compose(sights, x, y);
-        let pixel = c.pixel;
+        let Composed { pixel, laid } = self.compose(sights, x, y);
         self.chain.write(x, y, pixel);
-        c.laid
+        laid
     }
 
-    // Paints the pixels of row y from `left` up to and without `right`.
+    // Paints the pixels of row y from `left` up to and without `right`. Row, box and region each have a loop of their own
+    // and tally their parts, so that each promises what it paints.
     fn paint_row(&mut self, sights: &Sights, left: u32, right: u32, y: u32) -> Tally
         ensures { PaintedBox P.Pixel.lay (S.Shelf.tells P.Pixel.solid) C.Chain.tells self.old sights.now (row_box left right y) result self.new }
     {
-        let mut touched = 0u32;
-        let mut laid = 0u32;
+        let mut tally = Tally::NONE;
         for x in left..right {
-            let n = self.paint_pixel(sights, x, y);
-            touched = touched.saturating_add(1);
-            laid = laid.saturating_add(n);
+            let laid = self.paint_pixel(sights, x, y);
+            tally.add(Tally { touched: 1, laid });
         }
-        Tally { touched, laid }
+        tally
     }
 
     // Paints a box, its rows from the top, each from the left.
     fn paint_box(&mut self, sights: &Sights, b: Rect) -> Tally
         ensures { PaintedBox P.Pixel.lay (S.Shelf.tells P.Pixel.solid) C.Chain.tells self.old sights.now b result self.new }
     {
-        let mut touched = 0u32;
-        let mut laid = 0u32;
+        let mut tally = Tally::NONE;
         for y in b.top..b.bottom {
             let row = self.paint_row(sights, b.left, b.right, y);
-            touched = touched.saturating_add(row.touched);
-            laid = laid.saturating_add(row.laid);
+            tally.add(row);
         }
-        Tally { touched, laid }
+        tally
     }
 
     // Paints a region, its boxes in their order.
     pub(crate) fn paint(&mut self, sights: &Sights, region: &Region) -> Tally
         ensures { PaintedList P.Pixel.lay (S.Shelf.tells P.Pixel.solid) C.Chain.tells self.old sights.now (list_of region.now) result self.new }
     {
-        let mut touched = 0u32;
-        let mut laid = 0u32;
-        let boxes = region.boxes();
-        for i in 0..boxes.len() {
-            let part = self.paint_box(sights, boxes[i]);
-            touched = touched.saturating_add(part.touched);
-            laid = laid.saturating_add(part.laid);
+        let mut tally = Tally::NONE;
+        for b in region.boxes() {
+            let part = self.paint_box(sights, *b);
+            tally.add(part);
         }
-        Tally { touched, laid }
+        tally
     }
 }

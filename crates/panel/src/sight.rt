@@ -1,5 +1,7 @@
-ghost use Rattle.std.specs.Prelude.{◌≡◌, ◌≤◌, length};
+ghost use Rattle.std.specs.Prelude.{◌≡◌};
+ghost use Rattle.panel.specs.Tallies.{added};
 
+use arrayvec::ArrayVec;
 use reference::Pane;
 use region::Rect;
 
@@ -11,29 +13,17 @@ pub struct Spot {
 }
 
 // What a show has to know of a pane beside its pixels, asked once: the box of its whole surface, and its solid box.
-#[derive(Clone, Copy)]
+#[derive(Clone, Copy, Default)]
 pub struct Sight {
     pub pane: Pane,
     pub whole: Rect,
     pub solid: Rect,
 }
 
-impl Sight {
-    // What stands in an unused slot.
-    pub const NONE: Sight = Sight {
-        pane: Pane::NONE,
-        whole: Rect::NONE,
-        solid: Rect::NONE,
-    };
-}
-
-// The sights of a stack, bottom first: the first `count` of `all`.
-#[derive(Clone, Copy)]
+// The sights of a stack, bottom first.
+#[derive(Drop)]
 pub struct Sights {
-    pub all: [Sight; 16],
-    pub count: usize,
-    ghost size: { length all ≡ 16 },
-    ghost few: { count ≤ 16 },
+    pub all: ArrayVec<Sight, 16>,
 }
 
 // Where painting a place begins, and how many panes cover it from the top down to there.
@@ -57,10 +47,18 @@ pub struct Tally {
     pub laid: u32,
 }
 
-// A surface as a call names it: whether the shelf has it and it is not closed, its number, and its whole box.
-#[derive(Clone, Copy)]
-pub struct Known {
-    pub there: bool,
-    pub number: u32,
-    pub whole: Rect,
+impl Tally {
+    // Of no pixel.
+    pub const NONE: Tally = Tally {
+        touched: 0,
+        laid: 0,
+    };
+
+    // Adds the tally of a part, up to the greatest number that fits.
+    pub(crate) fn add(&mut self, part: Tally)
+        ensures { self.new ≡ added self.old part }
+    {
+        self.touched = self.touched.saturating_add(part.touched);
+        self.laid = self.laid.saturating_add(part.laid);
+    }
 }

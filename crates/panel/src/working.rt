@@ -1,35 +1,24 @@
 ghost use Rattle.reference.specs.declared.call.Call.TheVariants.{Place, Move, Lift, Remove};
 ghost use Rattle.panel.specs.Calls.{meaning, StackCall, TellCall, ShowCall};
 
-use crate::asking::not_negative;
 use crate::panel::Panel;
 use crate::sight::Tally;
 use chain::Chain;
 use pixel::Pixel;
-use reference::{Pane, Refusal, Shown};
+use reference::{Refusal, Shown};
 use region::Rect;
 use surface::{Order, Shelf};
 
 // How each call is done. A call asks its shelf, then meets the first refusal that applies, and only then changes
-// anything.
+// anything; whether an order is taken, the shelf says by taking it. The calls on the stack differ in their check and in what they make of the scene; one function that took both
+// as closures would be no plainer.
 impl<P: Pixel, S: Shelf<P>, C: Chain<P>> Panel<P, S, C> {
     pub(crate) fn try_place(&mut self, surface: i32, x: i32, y: i32) -> Result<(), Refusal>
         ensures { StackCall (meaning P.Pixel.lay (S.Shelf.tells P.Pixel.solid) S.Shelf.becomes C.Chain.tells) self.old (Place surface x y) result self.new }
     {
         let found = self.find(surface);
-        if let Some(r) = self.scene.refuse_place(found.there, surface, x, y) {
-            return Err(r);
-        }
-        let display = self.display;
-        self.scene.place(
-            &display,
-            Pane {
-                surface: found.number,
-                x,
-                y,
-            },
-            found.whole,
-        );
+        let known = self.scene.check_place(found, surface, x, y)?;
+        self.scene.place(&self.display, known, x, y);
         Ok(())
     }
 
@@ -37,19 +26,8 @@ impl<P: Pixel, S: Shelf<P>, C: Chain<P>> Panel<P, S, C> {
         ensures { StackCall (meaning P.Pixel.lay (S.Shelf.tells P.Pixel.solid) S.Shelf.becomes C.Chain.tells) self.old (Move surface x y) result self.new }
     {
         let found = self.find(surface);
-        if let Some(r) = self.scene.refuse_move(found.there, surface, x, y) {
-            return Err(r);
-        }
-        let display = self.display;
-        self.scene.move_to(
-            &display,
-            Pane {
-                surface: found.number,
-                x,
-                y,
-            },
-            found.whole,
-        );
+        let known = self.scene.check_move(found, surface, x, y)?;
+        self.scene.move_to(&self.display, known, x, y);
         Ok(())
     }
 
@@ -57,12 +35,10 @@ impl<P: Pixel, S: Shelf<P>, C: Chain<P>> Panel<P, S, C> {
         ensures { StackCall (meaning P.Pixel.lay (S.Shelf.tells P.Pixel.solid) S.Shelf.becomes C.Chain.tells) self.old (Lift surface under) result self.new }
     {
         let found = self.find(surface);
-        if let Some(r) = self.scene.refuse_lift(found.there, surface, under) {
-            return Err(r);
-        }
-        let display = self.display;
-        let under = not_negative(under) as usize;
-        self.scene.lift(&display, found.number, under, found.whole);
+        let known = self.scene.check_lift(found, surface, under)?;
+        // the check lets no negative number through
+        let under = usize::try_from(under).unwrap_or(0);
+        self.scene.lift(&self.display, known, under);
         Ok(())
     }
 
@@ -70,11 +46,8 @@ impl<P: Pixel, S: Shelf<P>, C: Chain<P>> Panel<P, S, C> {
         ensures { StackCall (meaning P.Pixel.lay (S.Shelf.tells P.Pixel.solid) S.Shelf.becomes C.Chain.tells) self.old (Remove surface) result self.new }
     {
         let found = self.find(surface);
-        if let Some(r) = self.scene.refuse_remove(found.there, surface) {
-            return Err(r);
-        }
-        let display = self.display;
-        self.scene.remove(&display, found.number, found.whole);
+        let known = self.scene.check_remove(found, surface)?;
+        self.scene.remove(&self.display, known);
         Ok(())
     }
 
@@ -83,17 +56,12 @@ impl<P: Pixel, S: Shelf<P>, C: Chain<P>> Panel<P, S, C> {
         ensures { TellCall (meaning P.Pixel.lay (S.Shelf.tells P.Pixel.solid) S.Shelf.becomes C.Chain.tells) self.old surface order result self.new }
     {
         let found = self.find(surface);
-        if !found.there {
-            return Err(Refusal::NoSurface(surface));
-        }
-        match self.shelf.order(found.number, order) {
-            Ok(damage) => {
-                let display = self.display;
-                self.scene.damage(&display, found.number, damage);
-                Ok(damage)
-            }
-            Err(_) => Err(Refusal::NotTaken(surface)),
-        }
+        let known = found.ok_or(Refusal::NoSurface(surface))?;
+        let Ok(damage) = self.shelf.order(known.number, order) else {
+            return Err(Refusal::NotTaken(surface));
+        };
+        self.scene.damage(&self.display, known.number, damage);
+        Ok(damage)
     }
 
     // Paints the stated region into the back and swaps.
@@ -101,8 +69,7 @@ impl<P: Pixel, S: Shelf<P>, C: Chain<P>> Panel<P, S, C> {
         ensures { ShowCall (meaning P.Pixel.lay (S.Shelf.tells P.Pixel.solid) S.Shelf.becomes C.Chain.tells) self.old result self.new }
     {
         let age = self.chain.age();
-        let display = self.display;
-        let region = self.scene.stated(&display, age);
+        let region = self.scene.stated(&self.display, age);
         let sights = self.sights();
         let Tally { touched, laid } = self.paint(&sights, &region);
         self.chain.swap();

@@ -2,6 +2,7 @@ pub mod Stack
 pub mod Places
 pub mod Picture
 pub mod Refusals
+pub mod Answers
 pub mod Damage
 pub mod Steps
 pub mod Painting

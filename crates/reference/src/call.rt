@@ -1,7 +1,7 @@
 use surface::Order;
 
 // A call of the panel, with its numbers as the caller gives them.
-#[derive(Clone, Copy)]
+#[derive(Clone, Copy, PartialEq, Eq, Debug)]
 pub enum Call {
     // puts a surface on top of the stack, its corner at (x, y)
     Place { surface: i32, x: i32, y: i32 },

@@ -1,5 +1,5 @@
 // A pane: a surface on the display, by its number on the shelf and the place of its upper left corner.
-#[derive(Clone, Copy)]
+#[derive(Clone, Copy, PartialEq, Eq, Debug, Default)]
 pub struct Pane {
     pub surface: u32,
     pub x: i32,

@@ -2,7 +2,7 @@ ghost use Rattle.std.specs.Prelude.{◌≡◌};
 ghost use Rattle.reference.specs.Refusals.{number as number_of, layer as layer_of, place as place_of};
 
 // Why a call is refused. Each but the first names the surface number that the call gave.
-#[derive(Clone, Copy)]
+#[derive(Clone, Copy, PartialEq, Eq, Debug)]
 pub enum Refusal {
     // a side of the chain is not 1 to 1,024
     BadDisplay,
@@ -23,14 +23,14 @@ pub enum Refusal {
 }
 
 // The layer that refuses.
-#[derive(Clone, Copy)]
+#[derive(Clone, Copy, PartialEq, Eq, Debug)]
 pub enum Layer {
     Panel,
     Shelf,
 }
 
 impl Refusal {
-    // The number that a refusal is told by.
+    // The number that a refusal is told by, which is fixed.
     pub fn number(self) -> u8
         ensures { result ≡ number_of self }
     {
@@ -56,7 +56,7 @@ impl Refusal {
         }
     }
 
-    // The surface number that it names; 0 where it names none.
+    // The surface number that it names; 0 where it names none, as it is told.
     pub fn place(self) -> i32
         ensures { result ≡ place_of self }
     {

@@ -1,3 +1,3 @@
 #![tactic(auto)]
 
-// Laws of the reference compositor, cited by the proofs of the panel.
+// Laws of the reference compositor, cited by the proofs of the panel and of its runs.

@@ -25,17 +25,12 @@ lived_part m s c base calls part answers n k p e z l = record {
   screens = l.screens;
 }
 
-heads : {X : Type 0} (x y : X) (xs ys : List X) → x ∷ xs ≡ y ∷ ys → (x ≡ y) × (xs ≡ ys)
-heads x y xs ys e = (cc, cc)
-
 -- shelves that tell the same, and equal calls
 alike_all : {P S T : Type 0} (v : World P S) (w : World P T) (es : List (Event P S)) (fs : List (Event P T)) → map (λ e. e.call) es ≡ map (λ e. e.call) fs → TellSameThroughout v.tells w.tells es fs → Both (Alike v w) es fs
 alike_all v w [] [] e h = tt
 alike_all v w [] (f ∷ fs) e h = absurd h
 alike_all v w (x ∷ es) [] e h = absurd h
-alike_all v w (x ∷ es) (f ∷ fs) e h =
-    let q = heads x.call f.call (map (λ e. e.call) es) (map (λ e. e.call) fs) e in
-    (record { call = q.0; told = h.0 }, alike_all v w es fs q.1 h.1)
+alike_all v w (x ∷ es) (f ∷ fs) e h = (record { call = cc; told = h.0 }, alike_all v w es fs (cc) h.1)
 
 same_calls : (xs ys : List Call) → reverse xs ≡ reverse ys → xs ≡ ys
 same_calls xs ys e = sym (reverse-reverse xs) ∙ (ap reverse e ∙ reverse-reverse ys)

@@ -11,7 +11,8 @@ use surface::Shelf;
 
 // Opens two panels of one base, on two shelves and two chains of any kinds, and makes the same calls on both, as many as
 // there are calls and places for both answers. On chains of one size, and where the shelves tell the same before each
-// call, both meet the same refusals at the same calls, the opening's included, and show equal frames.
+// call, both meet the same refusals at the same calls, the opening's included, and show equal frames. What is given of the
+// two stands side by side, each of a type of its own.
 pub fn open_and_run_two<P: Pixel, S: Shelf<P>, C: Chain<P>, T: Shelf<P>, D: Chain<P>>(
     shelf: S,
     chain: C,
@@ -30,7 +31,7 @@ pub fn open_and_run_two<P: Pixel, S: Shelf<P>, C: Chain<P>, T: Shelf<P>, D: Chai
         (λ u. NeverOpened (meaning P.Pixel.lay (S.Shelf.tells P.Pixel.solid) S.Shelf.becomes C.Chain.tells) shelf chain answers.old answers.new u) }
 {
     let n = calls.len().min(answers.len()).min(other_answers.len());
-    let calls = &calls[0..n];
+    let calls = &calls[..n];
     let first = open_and_run(shelf, chain, base, calls, answers);
     let second = open_and_run(other_shelf, other_chain, base, calls, other_answers);
     Two { first, second }

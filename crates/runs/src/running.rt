@@ -10,6 +10,7 @@ use reference::{Answer, Call};
 use surface::Shelf;
 
 // Makes calls on a panel in their order, as many as there are calls and places for answers, and writes the answers down.
+// Calls and answers are two slices: a caller has the one before and the other after, perhaps of another length.
 pub fn run<P: Pixel, S: Shelf<P>, C: Chain<P>>(
     panel: &mut Panel<P, S, C>,
     calls: &[Call],
@@ -20,8 +21,8 @@ pub fn run<P: Pixel, S: Shelf<P>, C: Chain<P>>(
     ensures fixed { Fixed (meaning P.Pixel.lay (S.Shelf.tells P.Pixel.solid) S.Shelf.becomes C.Chain.tells) panel.old panel.new }
 {
     let n = calls.len().min(answers.len());
+    // by index: a proof learns nothing of what is written to places that a zip lends out
     for i in 0..n {
-        let a = step(panel, calls[i]);
-        answers[i] = a;
+        answers[i] = step(panel, calls[i]);
     }
 }

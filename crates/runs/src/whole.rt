@@ -22,12 +22,7 @@ pub fn open_and_run<P: Pixel, S: Shelf<P>, C: Chain<P>>(
         (λ u. NeverOpened (meaning P.Pixel.lay (S.Shelf.tells P.Pixel.solid) S.Shelf.becomes C.Chain.tells) shelf chain answers.old answers.new u) }
     ensures others { drop (min (length calls.now) (length answers.old)) answers.new ≡ drop (min (length calls.now) (length answers.old)) answers.old }
 {
-    match Panel::open(shelf, chain, base) {
-        Ok(panel) => {
-            let mut panel = panel;
-            run(&mut panel, calls, answers);
-            Ok(panel)
-        }
-        Err(refused) => Err(refused),
-    }
+    let mut panel = Panel::open(shelf, chain, base)?;
+    run(&mut panel, calls, answers);
+    Ok(panel)
 }

@@ -1,18 +1,11 @@
 -- The front of an array after a part of it was turned by one, and lists of past damages.
-use Rattle.std.proofs.Common.{◌≡◌, ℕ, zero, suc, ◌+◌, ◌-◌, ◌<◌, ◌≤◌, min, List, [], ◌∷◌, ◌++◌, length, take, drop, set, sym, refl, ap, ◌∙◌, ⊎_elim, add-one, arith}
+use Rattle.std.proofs.Common.{◌≡◌, ℕ, suc, ◌+◌, ◌-◌, ◌<◌, ◌≤◌, min, List, [], ◌∷◌, ◌++◌, map, length, get_or, take, drop, fold, sym, ap, ◌∙◌, ⊎_elim, add-one, arith}
 use borrow.Rule.Slice.PartMut.{put_mid, post_of}
 use Rattle.std.specs.List.{insert, remove, between}
-use Rattle.std.proofs.lemmas.List.{append_assoc, length-append, length-take, length-take-le, length-drop, take_at, drop_at, take-take, take_all, take-append-le, drop-append-le, drop-drop, drop_all}
+use Rattle.std.proofs.lemmas.List.{append_assoc, length-append, length-take, length-take-le, length-drop, take_at, drop_at, take-take, take_all, take-append-le, drop-append-le, drop-drop, drop_all, get_or-take, get_or-map, length-map}
+use Rattle.std.proofs.lemmas.List.Sums.{fold_more}
 use Rattle.std.proofs.lemmas.Slice.{between_is, take-put_mid}
 use Rattle.std.proofs.lemmas.Bool.{cases_lt}
-
-pub take_set : {X : Type 0} (n : ℕ) (xs : List X) (i : ℕ) (x : X) → take n (set xs i x) ≡ set (take n xs) i x
-take_set zero [] i x = refl
-take_set zero (y ∷ ys) zero x = refl
-take_set zero (y ∷ ys) (suc i) x = refl
-take_set (suc n) [] i x = refl
-take_set (suc n) (y ∷ ys) zero x = refl
-take_set (suc n) (y ∷ ys) (suc i) x = ap (λ zs. y ∷ zs) (take_set n ys i x)
 
 -- the part from i to n turned to the left: its first is out of the front of n - 1
 pub turned_left : {X : Type 0} (xs : List X) (i n : ℕ) (ys : List X) → n ≤ length xs → i < n → ys ≡ drop 1 (between i n xs) ++ take 1 (between i n xs)
@@ -64,6 +57,15 @@ take_least xs n m k e =
     (λ (h : m < n). let f : k ≡ m = omega arith in let l : length (take m xs) ≤ n = simp length-take (omega arith) in ap (λ (i : ℕ). take i xs) f ∙ sym (take_all n (take m xs) l))
     (λ (h : n ≤ m). let f : k ≡ n = omega arith in ap (λ (i : ℕ). take i xs) f ∙ sym (take-take n m xs h))
     (cases_lt m n)
+
+-- one step more of a fold over a list ys, which goes by the first m of a list that tells it
+pub fold_told : {X Y A : Type 0} (v : X → Y) (f : A → Y → A) (a : A) (xs : List X) (m i : ℕ) (x : X) (e e' : A) → x ≡ get_or (take m xs) i x → i < length (take m xs) → e ≡ fold f a (take i (map v xs)) → e' ≡ f e (v x)
+    → e' ≡ fold f a (take (i + 1) (map v xs))
+fold_told v f a xs m i x e e' is h inv step =
+    let l : i < length xs = omega (arith, length-take m xs) in
+    let k : i < m = omega (arith, length-take m xs) in
+    let t : v x ≡ get_or (map v xs) i (v x) = ap v (is ∙ get_or-take m xs i x k) ∙ sym (get_or-map v xs i x (v x) l) in
+    step ∙ (λ j. f (inv j) (t j)) ∙ sym (fold_more f a (map v xs) i (v x) (omega (arith, length-map xs v)))
 
 -- one more past damage, where fewer than seven are there
 pub one_more : {X : Type 0} (x a b c d e f g : X) (n : ℕ) → n < 7

@@ -10,11 +10,9 @@ use region::{Display, Rect, Region, SignedRect};
 fn edge(from: i32, by: u32) -> i32
     ensures { (max : ℕ) → max ≤ 1024 → held result max ≡ held (from +ℤ pos by) max }
 {
-    let place = from as i64 + by as i64;
-    if place > 1024 {
-        return 1024;
-    }
-    place as i32
+    let place = i64::from(from) + i64::from(by);
+    // by `as`: proved to fit, so there is no error to answer
+    place.min(1024) as i32
 }
 
 // The region of a box of a pane's surface: the box moved to the pane's place, and clipped to the display.

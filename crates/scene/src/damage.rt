@@ -1,8 +1,8 @@
-ghost use Rattle.std.specs.Prelude.{◌≡◌, ◌<◌, [], take, fold, slice_index_or};
+ghost use Rattle.std.specs.Prelude.{◌≡◌, take, fold};
 ghost use Rattle.region_laws.specs.Joined.{joined};
 ghost use Rattle.region.specs.Lists.{list_of};
 ghost use Rattle.reference.specs.Damage.{opening, noted, shifted, stated as repainted};
-ghost use Rattle.scene.specs.States.{state_of, slots, stored};
+ghost use Rattle.scene.specs.States.{state_of, stored};
 
 use crate::scene::Scene;
 use reference::Pane;
@@ -60,41 +60,33 @@ impl Scene {
         self.pending = Region::empty();
     }
 
-    // A past damage, 0 the newest.
-    fn ago(&self, k: usize) -> Region
-        requires { k < 7 }
-        ensures { list_of result ≡ slice_index_or (slots self.now) k [] }
-    {
-        match k {
-            0 => self.ago_1,
-            1 => self.ago_2,
-            2 => self.ago_3,
-            3 => self.ago_4,
-            4 => self.ago_5,
-            5 => self.ago_6,
-            _ => self.ago_7,
-        }
-    }
-
     // Pending joined with the newest n past damages, or all if there are fewer, newest first.
     fn with_past(&self, n: usize) -> Region
         ensures { list_of result ≡ fold joined (state_of self.now).pending (take n (state_of self.now).past) }
     {
+        let past = [
+            &self.ago_1,
+            &self.ago_2,
+            &self.ago_3,
+            &self.ago_4,
+            &self.ago_5,
+            &self.ago_6,
+            &self.ago_7,
+        ];
         let mut all = self.pending;
-        let most = n.min(self.shows);
-        for k in 0..most {
-            all = all.join(&self.ago(k));
+        for damage in &past[..n.min(self.shows)] {
+            all = all.join(damage);
         }
         all
     }
 
-    // The region that a show repaints in a buffer of this age.
+    // The region that a show repaints in a buffer of this age; at 0, contents unknown, and past 8 it is the whole display.
     pub fn stated(&self, display: &Display, age: u8) -> Region
         ensures { list_of result ≡ repainted display.now.width display.now.height age (state_of self.now) }
     {
-        if age == 0 || age > 8 {
-            return display.whole();
+        match age {
+            1..=8 => self.with_past(usize::from(age) - 1),
+            _ => display.whole(),
         }
-        self.with_past(age as usize - 1)
     }
 }

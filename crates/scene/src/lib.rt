@@ -4,10 +4,12 @@
 
 mod boxes;
 mod calls;
+mod checks;
 mod damage;
-mod refusals;
+mod known;
 mod scene;
 mod stack;
 
-pub use refusals::refuse_tell;
+pub use checks::check_tell;
+pub use known::Known;
 pub use scene::Scene;

@@ -3,9 +3,10 @@ ghost use Rattle.std.specs.Prelude.{◌≡◌, ◌≤◌, length};
 use reference::Pane;
 use region::Region;
 
-// What a panel keeps of its picture. The stack is the first `count` of `panes`, bottom first. `pending` is what is
+// What a panel keeps of its picture, in the fixed form that the project wants: plain arrays and fields, copied by value.
+// The stack is the first `count` of `panes`, bottom first. `pending` is what is
 // damaged since the last show. `ago_1` to `ago_7` are the regions that were pending at the last seven shows, newest
-// first, of which the first `shows` are there.
+// first, of which the first `shows` are there; a show shifts them by value.
 #[derive(Clone, Copy)]
 pub struct Scene {
     pub(crate) panes: [Pane; 16],

@@ -11,12 +11,7 @@ fn find(panes: &[Pane], surface: u32) -> Option<usize>
     ensures height { result ≡ height_of surface panes.now }
     ensures below { IfSome result (λ i. i < length panes.now) }
 {
-    for (i, pane) in panes.iter().enumerate() {
-        if pane.surface == surface {
-            return Some(i);
-        }
-    }
-    None
+    panes.iter().position(|pane| pane.surface == surface)
 }
 
 impl Scene {
@@ -50,9 +45,8 @@ impl Scene {
         ensures stack { state_of self.new ≡ stacked (placed pane (state_of self.old).stack) (state_of self.old) }
         ensures more { self.new.count ≡ self.old.count + 1 }
     {
-        let n = self.count;
-        self.panes[n] = pane;
-        self.count = n + 1;
+        self.panes[self.count] = pane;
+        self.count += 1;
     }
 
     // Puts another pane at a height.
@@ -69,9 +63,8 @@ impl Scene {
         ensures stack { state_of self.new ≡ stacked (remove (state_of self.old).stack i) (state_of self.old) }
         ensures room { self.new.count < 16 }
     {
-        let n = self.count;
-        self.panes[i..n].rotate_left(1);
-        self.count = n - 1;
+        self.panes[i..self.count].rotate_left(1);
+        self.count -= 1;
     }
 
     // Puts a pane at a height; those from there on come up by one. Past the top is on top.
@@ -81,7 +74,6 @@ impl Scene {
     {
         let at = under.min(self.count);
         self.push(pane);
-        let n = self.count;
-        self.panes[at..n].rotate_right(1);
+        self.panes[at..self.count].rotate_right(1);
     }
 }

@@ -1,19 +1,10 @@
-use Rattle.reference.specs.Stack.{no_pane}
-use Rattle.scene.proofs.Heights.{passed_none, passed_more, passed_found, passed_all}
+use Rattle.std.proofs.Common.{eqb, ◌∙◌, rules, tests}
+use Rattle.std.proofs.lemmas.Iterator.{YieldsList-from_slice}
+use Rattle.std.proofs.lemmas.Iterator.Search.{position_from_yields_List}
+use Rattle.scene.proofs.Heights.{position_is}
 use Rattle.scene.proofs.stack.find.Goals as goal
 
-pub loop-i-init : goal.loop-i-init
-loop-i-init c = passed_none c.args.surface c.args.panes.now
-
-pub loop-i-preserved : goal.loop-i-preserved
-loop-i-preserved c = passed_more c.args.surface c.loop-i.i c.args.panes.now no_pane c.loop-i-test.true c.if-pane-surface.false c.loop-i.invariant
-
-pub returns-then-pane-surface : goal.returns-then-pane-surface
-returns-then-pane-surface c =
-    record {
-      height = passed_found c.args.surface c.loop-i.i c.args.panes.now no_pane c.loop-i-test.true c.if-pane-surface.true c.loop-i.invariant;
-      below = c.loop-i-test.true;
-    }
-
-pub returns : goal.returns
-returns c = record { height = passed_all c.args.surface c.loop-i.i c.args.panes.now c.loop-i-test.false c.loop-i.invariant; below = tt }
+pub returns-clause-height : goal.returns-clause-height
+returns-clause-height c =
+    position_from_yields_List (λ p. eqb p.surface c.args.surface) _ _ c.position.result c.position.ensures.ran (YieldsList-from_slice c.args.panes.now cc) (λ x b q k. search (rules, tests))
+    ∙ position_is c.args.surface c.args.panes.now

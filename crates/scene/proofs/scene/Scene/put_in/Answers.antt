@@ -1,14 +1,11 @@
-use Rattle.std.proofs.Common.{◌≡◌, List, length, ap, ◌∙◌, arith, rules}
+use Rattle.std.proofs.Common.{◌≡◌, List, length, ap, ◌∙◌, arith}
 use Rattle.std.specs.List.{insert}
-use Rattle.std.proofs.lemmas.List.{places, length-take-le}
+use Rattle.std.proofs.lemmas.List.{length-take-le}
 use Rattle.reference.specs.declared.pane.Pane.{Pane}
 use Rattle.reference.specs.Damage.{State}
 use Rattle.scene.specs.States.{state_of, stacked}
 use Rattle.scene.proofs.Turns.{turned_right, inserted_least}
 use Rattle.scene.proofs.scene.Scene.put_in.Goals as goal
-
-pub invariant_of-self : goal.invariant_of-self
-invariant_of-self c = search (rules, places)
 
 pub returns : goal.returns
 returns c =

@@ -1,12 +1,8 @@
-use Rattle.std.proofs.Common.{◌<◌, List, ap, arith, length-take, rules}
-use Rattle.std.proofs.lemmas.List.{places}
+use Rattle.std.proofs.Common.{◌<◌, List, ap, arith, length-take}
 use Rattle.reference.specs.declared.pane.Pane.{Pane}
 use Rattle.scene.specs.States.{state_of, stacked}
 use Rattle.scene.proofs.Turns.{turned_left}
 use Rattle.scene.proofs.scene.Scene.take_out.Goals as goal
-
-pub invariant_of-self : goal.invariant_of-self
-invariant_of-self c = search (rules, places)
 
 pub returns : goal.returns
 returns c =

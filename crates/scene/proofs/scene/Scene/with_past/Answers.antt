@@ -1,19 +1,18 @@
-use Rattle.std.proofs.Common.{◌<◌, [], length, fold, sym, ap, ◌∙◌, arith}
-use Rattle.std.proofs.lemmas.List.Sums.{fold_more}
+use Rattle.std.proofs.Common.{fold, ap, ◌∙◌, arith, length-take}
 use Rattle.region_laws.specs.Joined.{joined}
 use Rattle.region.specs.Lists.{list_of}
 use Rattle.scene.specs.States.{slots}
-use Rattle.scene.proofs.Turns.{take_least}
+use Rattle.scene.proofs.Turns.{take_least, fold_told}
 use Rattle.scene.proofs.scene.Scene.with_past.Goals as goal
 
-pub loop-k-preserved : goal.loop-k-preserved
-loop-k-preserved c =
-    let s = c.args.self.now in
-    let k = c.loop-k.k in
-    let l : k < length (slots s) = omega arith in
-    c.join-all.ensures.list ∙ (λ i. joined (c.loop-k.invariant i) (c.ago.ensures i)) ∙ sym (fold_more joined (list_of s.pending) (slots s) k [] l)
+pub loop-damage-preserved : goal.loop-damage-preserved
+loop-damage-preserved c = record {
+  joins = fold_told (λ r. list_of r.now) joined (list_of c.args.self.now.pending) _ c.min.result c.loop-damage.damage-index c.damage-item.result _ _ c.damage-item.is c.loop-damage-test.true c.loop-damage.invariant.joins c.join-all.ensures.list;
+  within = let h = simp length-take at c.loop-damage-test.true in omega arith;
+}
 
 pub returns : goal.returns
 returns c =
     let s = c.args.self.now in
-    c.loop-k.invariant ∙ ap (fold joined (list_of s.pending)) (take_least (slots s) c.args.n s.shows c.loop-k.k (omega arith))
+    let h = simp length-take at c.loop-damage-test.false in
+    c.loop-damage.invariant.joins ∙ ap (fold joined (list_of s.pending)) (take_least (slots s) c.args.n s.shows c.loop-damage.damage-index (omega arith))
