@@ -7,8 +7,8 @@ use reference::Shown;
 use std::alloc::AllocError;
 use std::fmt;
 
-// What came of a line.
-#[derive(Clone, Copy)]
+// What came of a line. Each of the three is told by a word of its own, so it is no Result of an Option.
+#[derive(Clone, Copy, PartialEq, Eq, Debug)]
 pub enum Outcome {
     Done,
     Shown(Shown),
@@ -16,7 +16,7 @@ pub enum Outcome {
 }
 
 // The outcome of the line of this number; the first line is line 1.
-#[derive(Clone, Copy)]
+#[derive(Clone, Copy, PartialEq, Eq, Debug)]
 pub struct Reply {
     pub line: usize,
     pub outcome: Outcome,
@@ -51,10 +51,7 @@ impl fmt::Display for Outcome {
     fn fmt<W: fmt::Write>(&self, f: &mut fmt::Formatter<W>) -> fmt::Result {
         match self {
             Outcome::Done => write!(f, "done"),
-            Outcome::Shown(shown) => {
-                let age = shown.age;
-                let touched = shown.touched;
-                let laid = shown.laid;
+            Outcome::Shown(Shown { age, touched, laid }) => {
                 write!(f, "frame\t{age}\t{touched}\t{laid}")
             }
             Outcome::Refused(refused) => write!(f, "refused\t{refused}"),
@@ -66,9 +63,8 @@ impl fmt::Display for Reply {
     ghost output = { λ r. Some (reply_text r) };
 
     fn fmt<W: fmt::Write>(&self, f: &mut fmt::Formatter<W>) -> fmt::Result {
-        let line = self.line;
-        let outcome = self.outcome;
-        write!(f, "{line}\t{outcome}\n")
+        let Reply { line, outcome } = self;
+        writeln!(f, "{line}\t{outcome}")
     }
 }
 

@@ -1,20 +1,15 @@
 // Pixels as text.
-ghost use Rattle.std.specs.Prelude.{◌≡◌, ℕ, ◌+◌, ◌/◌, ◌%◌, ◌<◌, ◌++◌, is_ok, IfOk, if◌then◌else◌, string_bytes};
+ghost use Rattle.std.specs.Prelude.{◌≡◌, ◌/◌, ◌%◌, [], ◌∷◌, ◌++◌, is_ok, IfOk, OnOk, if◌then◌else◌, string_bytes};
 ghost use Rattle.replies.specs.Replies.{hex_digit, hex_text, row_text};
 
 use std::alloc::{AllocError, Global};
 
-// A hexadecimal digit, in lower case.
-fn digit(n: u8) -> char
-    requires { n < 16 }
-    ensures value { result ≡ hex_digit n }
-    ensures ascii { result < 128 }
+// Writes a pixel at the end of a text: two hexadecimal digits, in lower case.
+#[tactic(auto, using(std::proofs::lemmas::Fmt::hex_byte))]
+fn write_pixel(text: &mut String, pixel: u8) -> Result<(), AllocError>
+    ensures { OnOk result (string_bytes text.new ≡ string_bytes text.old ++ hex_digit (pixel / 16) ∷ hex_digit (pixel % 16) ∷ []) }
 {
-    if n < 10 {
-        (b'0' + n) as char
-    } else {
-        (b'a' + (n - 10)) as char
-    }
+    write!(text, "{pixel:02x}")
 }
 
 // Two hexadecimal digits for each pixel.
@@ -23,8 +18,7 @@ fn digits(heap: Global, pixels: &[u8]) -> Result<String, AllocError>
 {
     let mut text = String::new(heap);
     for p in pixels {
-        text.push(digit(*p / 16))?;
-        text.push(digit(*p % 16))?;
+        write_pixel(&mut text, *p)?;
     }
     Ok(text)
 }

@@ -1,10 +1,15 @@
 -- The settings that an open gives.
-use Rattle.std.specs.Prelude.{◌≡◌, ℕ, pos, Some, None, Ok, Err, Result}
+use Rattle.std.specs.Prelude.{◌≡◌, ℕ, ◌≤◌, true, false, ℤ, pos, Some, None, Ok, Err, Result}
 use Rattle.script.specs.declared.record.Opening.{Opening}
 use Rattle.script.specs.declared.settings.Settings.{Settings}
 use Rattle.replies.specs.declared.refused.Refused.{Refused}
 use Rattle.replies.specs.declared.refused.Refused.TheVariants.{OutOfTurn}
-use Rattle.script.specs.Records.{misfit}
+use Rattle.script.specs.Records.{outside, misfit}
+
+-- a field's number where it is 1 to `most`, else the refusal of the field at `place`
+abbrev pub Ranged : ℕ → ℤ → ℕ → Result ℕ Refused → Type 0
+Ranged most z place (Ok n) = (outside (pos 1) (pos most) z ≡ false) × (z ≡ pos n) × (1 ≤ n) × (n ≤ most)
+Ranged most z place (Err e) = (outside (pos 1) (pos most) z ≡ true) × (e ≡ OutOfTurn place)
 
 -- an open whose fields are all in range, and the settings with its four numbers
 pub record Fitting (o : Opening) (s : Settings) : Type 0 where

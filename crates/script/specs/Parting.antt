@@ -1,27 +1,21 @@
 -- A text is parted at each byte of one kind: a script's lines at line feeds (10), a line's fields at tabs (9).
-use Rattle.std.specs.Prelude.{ℕ, Bool, cond, not, List, [], ◌∷◌, take, Some, None, Option, ◌==◌}
-use Rattle.std.specs.List.{prefix_len}
-
--- a byte that does not part
-abbrev pub other : ℕ → ℕ → Bool
-other sep b = not (b == sep)
+use Rattle.std.specs.Prelude.{ℕ, ◌+◌, cond, length, List, [], drop, take, Some, None, Option, ◌==◌, nat_lt}
+use Rattle.std.specs.List.{position_or_len, slice_split}
 
 -- how many bytes stand before the first byte that parts, and these bytes
 abbrev pub front_length : ℕ → List ℕ → ℕ
-front_length sep bs = prefix_len (other sep) bs
+front_length sep bs = position_or_len (λ b. b == sep) bs
 
 abbrev pub front : ℕ → List ℕ → List ℕ
 front sep bs = take (front_length sep bs) bs
 
--- one byte more at the front of the first part
-abbrev pub onto : ℕ → List (List ℕ) → List (List ℕ)
-onto b [] = (b ∷ []) ∷ []
-onto b (p ∷ ps) = (b ∷ p) ∷ ps
+-- what stands after the first byte that parts, if there is one
+abbrev pub rest : ℕ → List ℕ → Option (List ℕ)
+rest sep bs = cond (nat_lt (front_length sep bs) (length bs)) (Some (drop (front_length sep bs + 1) bs)) None
 
 -- the parts of a text: always one more than the bytes that part it
 abbrev pub parts : ℕ → List ℕ → List (List ℕ)
-parts sep [] = [] ∷ []
-parts sep (b ∷ bs) = cond (b == sep) ([] ∷ parts sep bs) (onto b (parts sep bs))
+parts sep bs = slice_split (λ b. b == sep) bs
 
 -- the parts of what comes after a part, if anything does
 abbrev pub parts_after : ℕ → Option (List ℕ) → List (List ℕ)

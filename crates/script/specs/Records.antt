@@ -1,5 +1,5 @@
 -- What a line of a script says.
-use Rattle.std.specs.Prelude.{ℕ, zero, suc, Bool, cond, ◌||◌, List, [], ◌∷◌, take, ℤ, pos, Some, None, Ok, Err, Option, Result, int_lt, slice_index_or}
+use Rattle.std.specs.Prelude.{ℕ, zero, suc, Bool, cond, ◌||◌, List, [], ◌∷◌, ℤ, pos, Some, None, Ok, Err, Option, Result, int_lt, slice_index_or}
 use Rattle.std.specs.Option.{ok_or}
 use Rattle.reference.specs.declared.call.Call.TheVariants.{Place, Move, Lift, Remove, Tell, Show}
 use Rattle.script.specs.declared.verb.Verb.{Verb}
@@ -40,10 +40,6 @@ as_end (end place line) = Ok tt
 abbrev pub numbers_of : ℕ → State → Result (List ℤ) Refused
 numbers_of zero s = then (as_end (token s)) (λ _. Ok [])
 numbers_of (suc k) s = then (as_number (token s)) (λ z. then (numbers_of k (step s)) (λ zs. Ok (z ∷ zs)))
-
--- the first so many of a list of numbers, where there is one
-abbrev pub first_of : ℕ → Result (List ℤ) Refused → Result (List ℤ) Refused
-first_of k r = then r (λ zs. Ok (take k zs))
 
 -- the record that a verb and its numbers make
 abbrev pub nth : List ℤ → ℕ → ℤ

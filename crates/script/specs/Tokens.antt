@@ -1,10 +1,8 @@
 -- What a lexer gives, token after token.
 use Rattle.std.specs.Prelude.{ℕ, ◌+◌, ◌-◌, ◌^◌, min, cond, List, [], ◌∷◌, ◌==◌}
-use Rattle.std.specs.Option.{option_map}
 use Rattle.script.specs.declared.token.Token.{Token}
 use Rattle.script.specs.declared.token.Token.TheVariants.{Word, Number, End}
-use Rattle.script.specs.declared.lexer.Lexer.{Lexer}
-use Rattle.script.specs.Parting.{parts, parts_after}
+use Rattle.script.specs.Parting.{parts}
 
 -- what a token says, with its bytes in place of the reference to them: bytes, place and line, or place and line
 pub data Said : Type 0 where
@@ -22,9 +20,6 @@ pub record State : Type 0 where
   pub fields : List (List ℕ)
   pub place : ℕ
   pub line : ℕ
-
-abbrev pub left : Lexer → State
-left l = record { fields = parts_after 9 (option_map (λ x. x.now) l.rest); place = l.place; line = l.line }
 
 -- at the start of a line
 abbrev pub start : List ℕ → ℕ → State

@@ -1,4 +1,5 @@
-// The frame script: lines, fields and records. What is answered is of the crate `replies`.
+// The frame script: lines, fields and records. What is answered to a line stands in the crate `replies`, whose names are
+// passed on from here.
 #![tactic(auto)]
 
 mod lexer;

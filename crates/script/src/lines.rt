@@ -2,7 +2,7 @@
 ghost use Rattle.std.specs.Prelude.{◌≡◌, ℕ, ◌+◌, ◌-◌, ◌<◌, ◌≤◌, length};
 ghost use Rattle.script.specs.Lines.{line, lines_after};
 
-use crate::parting::front_length;
+use crate::parting::cut;
 
 // A script's first line, without its line feed, and what comes after that.
 pub fn first_line<'a>(script: &'a [u8]) -> (&'a [u8], &'a [u8])
@@ -10,12 +10,6 @@ pub fn first_line<'a>(script: &'a [u8]) -> (&'a [u8], &'a [u8])
     ensures back { result.1.now ≡ lines_after script.now }
     ensures shorter { length result.1.now ≤ length script.now - 1 }
 {
-    let n = front_length(b'\n', script);
-    let (front, none) = script.split_at(n);
-    if n < script.len() {
-        let (_, back) = script.split_at(n + 1);
-        (front, back)
-    } else {
-        (front, none)
-    }
+    let (line, rest) = cut(b'\n', script);
+    (line, rest.unwrap_or(&[]))
 }

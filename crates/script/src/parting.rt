@@ -1,30 +1,16 @@
 // Parts a text at a byte.
-ghost use Rattle.std.specs.Prelude.{◌≡◌, ℕ, ◌+◌, ◌-◌, ◌<◌, ◌≤◌, ◌∷◌, length};
+ghost use Rattle.std.specs.Prelude.{◌≡◌, ◌∷◌};
 ghost use Rattle.std.specs.Option.{option_map};
-ghost use Rattle.script.specs.Parting.{front_length, parts, parts_after};
-
-// How many bytes stand before the first byte `sep`: all where there is none.
-pub(crate) fn front_length(sep: u8, text: &[u8]) -> usize
-    ensures value { result ≡ front_length sep text.now }
-    ensures within { result ≤ length text.now }
-{
-    let mut n = 0;
-    while n < text.len() && text[n] != sep {
-        n += 1;
-    }
-    n
-}
+ghost use Rattle.script.specs.Parting.{front, rest, parts, parts_after};
 
 // The first part of a text, and what comes after the byte that ends it, if one does.
 pub(crate) fn cut<'a>(sep: u8, text: &'a [u8]) -> (&'a [u8], Option<&'a [u8]>)
-    ensures { parts sep text.now ≡ result.0.now ∷ parts_after sep (option_map (λ x. x.now) result.1) }
+    ensures first { result.0.now ≡ front sep text.now }
+    ensures then { option_map (λ x. x.now) result.1 ≡ rest sep text.now }
+    ensures parted { parts sep text.now ≡ result.0.now ∷ parts_after sep (option_map (λ x. x.now) result.1) }
 {
-    let n = front_length(sep, text);
-    let (front, _) = text.split_at(n);
-    if n < text.len() {
-        let (_, back) = text.split_at(n + 1);
-        (front, Some(back))
-    } else {
-        (front, None)
+    match text.iter().position(|b| *b == sep) {
+        Some(n) => (&text[..n], Some(&text[n + 1..])),
+        None => (text, None),
     }
 }

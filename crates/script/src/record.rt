@@ -1,8 +1,7 @@
 // The records of a script.
-ghost use Rattle.std.specs.Prelude.{◌≡◌, ℕ, ◌+◌, ◌-◌, ◌<◌, ◌≤◌, [], ◌∷◌, length};
-ghost use Rattle.script.specs.Tokens.{left, start, token, step};
-ghost use Rattle.script.specs.Verbs.{count_of};
-ghost use Rattle.script.specs.Records.{as_verb, as_number, as_end, numbers_of, first_of, record_of, parsed};
+ghost use Rattle.std.specs.Prelude.{◌≡◌};
+ghost use Rattle.script.specs.Tokens.{token, step};
+ghost use Rattle.script.specs.Records.{as_verb, as_number, as_end, numbers_of, record_from, parsed};
 
 use crate::lexer::Lexer;
 use crate::number::read_number;
@@ -13,7 +12,7 @@ use replies::Refused;
 use surface::Order;
 
 // The fields of an open, as they are written.
-#[derive(Clone, Copy)]
+#[derive(Clone, Copy, PartialEq, Eq, Debug)]
 pub struct Opening {
     pub width: i32,
     pub height: i32,
@@ -22,7 +21,7 @@ pub struct Opening {
 }
 
 // A line of a script, read.
-#[derive(Clone, Copy)]
+#[derive(Clone, Copy, PartialEq, Eq, Debug)]
 pub enum Record {
     Open(Opening),
     Call(Call),
@@ -30,8 +29,8 @@ pub enum Record {
 
 // The verb of a line.
 fn verb_of(fields: &mut Lexer) -> Result<Verb, Refused>
-    ensures value { result ≡ as_verb (token (left fields.old)) }
-    ensures after { left fields.new ≡ step (left fields.old) }
+    ensures value { result ≡ as_verb (token fields.old) }
+    ensures after { fields.new ≡ step fields.old }
 {
     match fields.next() {
         Token::Word { bytes, place, .. } => Verb::read(bytes).ok_or(Refused::NotARecord { place }),
@@ -43,8 +42,8 @@ fn verb_of(fields: &mut Lexer) -> Result<Verb, Refused>
 
 // The number that comes next.
 fn next_number(fields: &mut Lexer) -> Result<i32, Refused>
-    ensures value { result ≡ as_number (token (left fields.old)) }
-    ensures after { left fields.new ≡ step (left fields.old) }
+    ensures value { result ≡ as_number (token fields.old) }
+    ensures after { fields.new ≡ step fields.old }
 {
     match fields.next() {
         Token::Number { bytes, place, .. } => {
@@ -56,7 +55,7 @@ fn next_number(fields: &mut Lexer) -> Result<i32, Refused>
 
 // No field is left.
 fn end(fields: &mut Lexer) -> Result<(), Refused>
-    ensures { result ≡ as_end (token (left fields.old)) }
+    ensures { result ≡ as_end (token fields.old) }
 {
     match fields.next() {
         Token::Word { place, .. } | Token::Number { place, .. } => {
@@ -66,51 +65,54 @@ fn end(fields: &mut Lexer) -> Result<(), Refused>
     }
 }
 
-// The numbers that follow a verb, as the first of four, and then the line's end.
-fn numbers(verb: Verb, fields: &mut Lexer) -> Result<[i32; 4], Refused>
-    ensures { first_of (count_of verb) result ≡ numbers_of (count_of verb) (left fields.old) }
+// As many numbers as are asked for, and then the line's end.
+fn numbers<const N: usize>(fields: &mut Lexer) -> Result<[i32; N], Refused>
+    ensures { result ≡ numbers_of N fields.old }
 {
-    let mut numbers = [0; 4];
-    let count = verb.count();
-    for i in 0..count {
-        numbers[i] = next_number(fields)?;
+    let mut numbers = [0; N];
+    for number in numbers.iter_mut() {
+        *number = next_number(fields)?;
     }
     end(fields)?;
     Ok(numbers)
 }
 
-// The record that a verb and its numbers make.
-fn make_record(verb: Verb, numbers: [i32; 4]) -> Record
-    ensures { result ≡ record_of verb numbers }
+// The record that a verb begins: its numbers, and then the line's end.
+fn rest_of_record(verb: Verb, fields: &mut Lexer) -> Result<Record, Refused>
+    ensures { result ≡ record_from fields.old verb }
 {
-    let [a, b, c, d] = numbers;
     match verb {
-        Verb::Open => Record::Open(Opening {
-            width: a,
-            height: b,
-            base: c,
-            chain: d,
-        }),
-        Verb::Place => Record::Call(Call::Place {
-            surface: a,
-            x: b,
-            y: c,
-        }),
-        Verb::Move => Record::Call(Call::Move {
-            surface: a,
-            x: b,
-            y: c,
-        }),
-        Verb::Lift => Record::Call(Call::Lift {
-            surface: a,
-            under: b,
-        }),
-        Verb::Remove => Record::Call(Call::Remove { surface: a }),
-        Verb::Tell => Record::Call(Call::Tell {
-            surface: a,
-            order: Order { act: b, a: c, b: d },
-        }),
-        Verb::Show => Record::Call(Call::Show),
+        Verb::Open => {
+            let [width, height, base, chain] = numbers::<4>(fields)?;
+            Ok(Record::Open(Opening {
+                width,
+                height,
+                base,
+                chain,
+            }))
+        }
+        Verb::Place => {
+            let [surface, x, y] = numbers::<3>(fields)?;
+            Ok(Record::Call(Call::Place { surface, x, y }))
+        }
+        Verb::Move => {
+            let [surface, x, y] = numbers::<3>(fields)?;
+            Ok(Record::Call(Call::Move { surface, x, y }))
+        }
+        Verb::Lift => {
+            let [surface, under] = numbers::<2>(fields)?;
+            Ok(Record::Call(Call::Lift { surface, under }))
+        }
+        Verb::Remove => {
+            let [surface] = numbers::<1>(fields)?;
+            Ok(Record::Call(Call::Remove { surface }))
+        }
+        Verb::Tell => {
+            let [surface, act, a, b] = numbers::<4>(fields)?;
+            let order = Order { act, a, b };
+            Ok(Record::Call(Call::Tell { surface, order }))
+        }
+        Verb::Show => end(fields).map(|()| Record::Call(Call::Show)),
     }
 }
 
@@ -120,6 +122,5 @@ pub fn read_record(line: &[u8], number: usize) -> Result<Record, Refused>
 {
     let mut fields = Lexer::new(line, number);
     let verb = verb_of(&mut fields)?;
-    let numbers = numbers(verb, &mut fields)?;
-    Ok(make_record(verb, numbers))
+    rest_of_record(verb, &mut fields)
 }

@@ -1,7 +1,7 @@
 ghost use Rattle.std.specs.Prelude.{◌≤◌};
 
 // What a panel is opened with: sides of 1 to 64 pixels, the base pixel and a chain of 1 to 4 buffers.
-#[derive(Clone, Copy)]
+#[derive(Clone, Copy, PartialEq, Eq, Debug)]
 pub struct Settings {
     pub width: u32,
     pub height: u32,

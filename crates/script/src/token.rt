@@ -1,5 +1,6 @@
-// A field of a line, or the line's end. A token borrows its bytes of the script.
-#[derive(Clone, Copy)]
+// A field of a line, or the line's end. A token borrows its bytes of the script and, in each of the fixed cases, has its
+// place and its line.
+#[derive(Clone, Copy, PartialEq, Eq, Debug)]
 pub enum Token<'a> {
     // the first field
     Word {

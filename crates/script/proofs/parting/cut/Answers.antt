@@ -1,17 +1,22 @@
-use Rattle.std.proofs.Common.{◌≡◌, ℕ, ◌+◌, ◌<◌, ◌≤◌, true, false, ltb, List, [], ◌∷◌, length, take, drop, arith}
-use Rattle.std.proofs.lemmas.Bool.Decides.{nat_tests}
-use Rattle.script.specs.Parting.{front_length, parts}
-use Rattle.script.proofs.Splitting.{parts_first}
+use Rattle.std.proofs.Common.{eqb, sym, ◌∙◌, rules, tests}
+use Rattle.std.proofs.lemmas.Iterator.{YieldsList-from_slice}
+use Rattle.std.proofs.lemmas.Iterator.Search.{position_from_yields_List}
+use Rattle.std.proofs.lemmas.List.{take_rest}
+use Rattle.script.proofs.Splitting.{parted, at_some, at_none}
 use Rattle.script.proofs.parting.cut.Goals as goal
 
-parted : (sep n : ℕ) (bs f g : List ℕ) → n ≡ front_length sep bs → f ≡ take n bs → n < length bs → g ≡ drop (n + 1) bs → parts sep bs ≡ f ∷ parts sep g
-parted sep n bs f g e ef h eg = let t : ltb n (length bs) ≡ true = grind (arith, nat_tests) in let p = parts_first sep bs in cc
+pub returns-in-Some : goal.returns-in-Some
+returns-in-Some c =
+    let sep = c.args.sep in
+    let text = c.args.text.now in
+    let found = position_from_yields_List (λ b. eqb b sep) _ _ c.position.result c.position.ensures.ran (YieldsList-from_slice text cc) (λ x b q k. search (rules, tests)) in
+    let p = at_some sep text c.in-Some.n (sym c.in-Some.is ∙ found) in
+    rw take_rest (record { first = p.0; then = p.1; parted = parted sep text _ _ p.0 p.1 })
 
-whole : (sep n : ℕ) (bs f : List ℕ) → n ≡ front_length sep bs → f ≡ take n bs → length bs ≤ n → parts sep bs ≡ f ∷ []
-whole sep n bs f e ef h = let t : ltb n (length bs) ≡ false = grind (arith, nat_tests) in let p = parts_first sep bs in cc
-
-pub returns-then-n-text : goal.returns-then-n-text
-returns-then-n-text c = parted _ _ _ _ _ c.front_length-n.ensures.value c.split_at.ensures.front c.if-n-text.true c.split_at-then-n-text.ensures.back
-
-pub returns-else-n-text : goal.returns-else-n-text
-returns-else-n-text c = whole _ _ _ _ c.front_length-n.ensures.value c.split_at.ensures.front c.if-n-text.false
+pub returns-in-None : goal.returns-in-None
+returns-in-None c =
+    let sep = c.args.sep in
+    let text = c.args.text.now in
+    let found = position_from_yields_List (λ b. eqb b sep) _ _ c.position.result c.position.ensures.ran (YieldsList-from_slice text cc) (λ x b q k. search (rules, tests)) in
+    let p = at_none sep text (sym c.in-None.is ∙ found) in
+    record { first = p.0; then = p.1; parted = parted sep text _ _ p.0 p.1 }
