@@ -3,6 +3,7 @@ pub mod Writes
 pub mod Ages
 pub mod Swaps
 pub mod Places
+pub mod Shapes
 pub mod Told
 pub mod Begins
 pub mod Frames

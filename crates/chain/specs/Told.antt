@@ -1,30 +1,32 @@
 -- What buffers in the caller's memory tell.
-use Rattle.std.specs.Prelude.{◌≡◌, ℕ, zero, suc, ◌*◌, ◌<◌, ◌≤◌, Bool, true, false, cond, ◌&&◌, List, [], ◌∷◌, length, is_some, None, Option, ◌==◌, nat_lt, slice_set, refl}
+use Rattle.std.specs.Prelude.{◌≡◌, ℕ, zero, suc, ◌*◌, ◌<◌, Bool, true, false, cond, ◌&&◌, List, [], ◌∷◌, length, is_some, None, Option, ◌==◌, nat_lt, slice_index, slice_set, refl}
 use Rattle.std.proofs.Common.{sym, arith}
 use Rattle.std.specs.List.{slice_get}
 use Rattle.std.proofs.lemmas.Nat.{mul-add-lt}
 use Rattle.std.proofs.lemmas.Bool.{and_parts, and_left, and_right, ltb-true, le-ltb, eqb-true}
 use Rattle.chain.specs.Screens.{Screens, Sound, inside}
 use Rattle.chain.specs.Places.{spot, spot_below, place}
+use Rattle.chain.specs.Shapes.{room}
 use Rattle.chain.specs.declared.ages.Ages.{Ages}
 use Rattle.chain.specs.declared.layout.Layout.{Layout}
+use Rattle.chain.specs.declared.shape.Shape.{Shape}
 use Rattle.chain.specs.declared.state.State.{State}
 use Rattle.chain.specs.declared.buffers.Buffers.{Buffers}
 
 -- the age of buffer b
 abbrev pub age_of : Ages → ℕ → ℕ
-age_of a b = cond (b == 0) a.first (cond (b == 1) a.second (cond (b == 2) a.third (cond (b == 3) a.fourth 0)))
+age_of a b = slice_index a.by_buffer b
 
 -- the ages of a new chain
 abbrev pub unaged : Ages
-unaged = record { first = 0; second = 0; third = 0; fourth = 0 }
+unaged = record { by_buffer = 0 ∷ 0 ∷ 0 ∷ 0 ∷ [] }
 
 -- does the memory have the length that the buffers need
-abbrev pub exact : {P : Type 0} → State → List P → Bool
-exact s m = length m == s.count * (s.width * s.height)
+abbrev pub exact : {P : Type 0} → Shape → List P → Bool
+exact s m = length m == room s
 
 -- the pixel of buffer b at x, y
-abbrev pub pixel_in : {P : Type 0} → State → List P → ℕ → ℕ → ℕ → Option P
+abbrev pub pixel_in : {P : Type 0} → Shape → List P → ℕ → ℕ → ℕ → Option P
 pixel_in s m b x y =
     cond (exact s m && (nat_lt b s.count && inside s.width s.height x y)) (slice_get m (place s.layout s.width s.height b x y)) None
 
@@ -32,10 +34,10 @@ pixel_in s m b x y =
 abbrev pub told : {P : Type 0} → State → List P → Screens P
 told s m =
     record {
-      width = cond (exact s m) s.width 0;
-      height = cond (exact s m) s.height 0;
-      count = s.count;
-      pixel = pixel_in s m;
+      width = cond (exact s.shape m) s.shape.width 0;
+      height = cond (exact s.shape m) s.shape.height 0;
+      count = s.shape.count;
+      pixel = pixel_in s.shape m;
       age = age_of s.ages;
       back = s.back;
       front = s.front;
@@ -53,7 +55,7 @@ pub record Untouched {P : Type 0} (before after : Buffers P) : Type 0 where
 
 -- the memory is the caller's still, and a write answered by r altered one place of it or none
 pub record Stored {P : Type 0} (before : Buffers P) (x y : ℕ) (p : P) (r : Bool) (after : Buffers P) : Type 0 where
-  pub memory : after.mem.now ≡ cond r (slice_set before.mem.now (place before.state.layout before.state.width before.state.height before.state.back x y) p) before.mem.now
+  pub memory : after.mem.now ≡ cond r (slice_set before.mem.now (place before.state.shape.layout before.state.shape.width before.state.shape.height before.state.back x y) p) before.mem.now
   pub lent : after.mem.ghost_name ≡ before.mem.ghost_name
 
 -- The proof, owed by each kind of chain, that what is told is sound.
@@ -78,17 +80,13 @@ there_in o m w h n b x y true e =
     let l = e refl in there_at m (place o w h b x y) (omega arith))
 there_in o m w h n b x y false e = sym (and_right (nat_lt b n) _ (and_left (nat_lt x 0) (nat_lt y 0) (le-ltb x 0 (omega arith))))
 
-one_of : (t : Bool) (a b : ℕ) → a ≤ 255 → b ≤ 255 → cond t a b ≤ 255
-one_of true a b p q = p
-one_of false a b p q = q
-
 told_sound : {P : Type 0} (s : State) (m : List P) → Sound (told s m)
 told_sound s m =
     record {
-      there = λ b x y. there_in s.layout m s.width s.height s.count b x y (exact s m) (eqb-true (length m) _);
+      there = λ b x y. there_in s.shape.layout m s.shape.width s.shape.height s.shape.count b x y (exact s.shape m) (eqb-true (length m) _);
       back = s.known.0;
       front = s.known.1;
-      age = λ b. one_of (b == 0) _ _ s.bytes.0 (one_of (b == 1) _ _ s.bytes.1 (one_of (b == 2) _ _ s.bytes.2 (one_of (b == 3) _ _ s.bytes.3 (omega arith))));
+      age = s.bytes;
       writes = s.counted;
     }
 

@@ -2,13 +2,14 @@ ghost use Rattle.std.specs.Prelude.{◌≡◌, ◌&&◌, length, if◌then◌els
 ghost use Rattle.chain.specs.Screens.{inside, on_display};
 ghost use Rattle.chain.specs.Writes.{written, WriteIsFunction};
 ghost use Rattle.chain.specs.Swaps.{TurnSwaps, TurnIsFunction};
-ghost use Rattle.chain.specs.Begins.{BeginIsFunction, fitting};
+ghost use Rattle.chain.specs.Begins.{BeginIsFunction};
 ghost use Rattle.chain.specs.Places.{place};
+ghost use Rattle.chain.specs.Shapes.{fits};
 ghost use Rattle.chain.specs.Frames.{AgesTell};
 
 use crate::buffers::Buffers;
 use crate::chain::Chain;
-use crate::layout::Layout;
+use crate::shape::Shape;
 use crate::state::State;
 use pixel::Pixel;
 
@@ -21,21 +22,13 @@ pub fn write_then_read<P: Pixel, C: Chain<P>>(chain: &mut C, x: u32, y: u32, p: 
     chain.back_pixel(x, y)
 }
 
-// Writes one pixel of a new chain of one buffer. A chain only borrows the caller's memory: once it is gone, the memory
-// holds what was written.
-pub fn write_once<P: Pixel>(
-    mem: &mut [P],
-    layout: Layout,
-    width: u32,
-    height: u32,
-    x: u32,
-    y: u32,
-    p: P,
-) -> bool
-    ensures answers { result ≡ fitting 1 width height 1 (length mem.old) && inside width height x y }
-    ensures leaves { mem.new ≡ (if result then slice_set mem.old (place layout width height 0 x y) p else mem.old) }
+// Writes one pixel of a new chain, whose back is buffer 0. A chain only borrows the caller's memory: once it is gone, the
+// memory holds what was written.
+pub fn write_once<P: Pixel>(mem: &mut [P], shape: Shape, x: u32, y: u32, p: P) -> bool
+    ensures answers { result ≡ fits 1 shape (length mem.old) && inside shape.width shape.height x y }
+    ensures leaves { mem.new ≡ (if result then slice_set mem.old (place shape.layout shape.width shape.height 0 x y) p else mem.old) }
 {
-    let state = State::new(layout, mem.len(), 1, width, height, 1);
+    let state = State::new(shape, 1, mem.len());
     let mut buffers = Buffers { mem, state };
     buffers.write(x, y, p)
 }
@@ -50,6 +43,7 @@ pub fn steps_are_functions<P: Pixel>()
 {}
 
 // A buffer's age tells which frame it holds.
+#[tactic(auto, using(crate::proofs::Showing::ages_tell))]
 pub fn ages_tell_frames<P: Pixel>()
     ensures { AgesTell P }
 {}

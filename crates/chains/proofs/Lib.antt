@@ -1,4 +1,4 @@
-pub mod Turning
+pub mod Next
 pub mod Settling
 pub mod Meeting
-pub mod Spelling
+pub mod Same

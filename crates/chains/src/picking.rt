@@ -1,106 +1,36 @@
 ghost use Rattle.std.specs.Prelude.{◌≡◌, length};
-ghost use Rattle.chain.specs.Screens.{back_age, back_pixel, front_pixel};
-ghost use Rattle.chain.specs.Writes.{Puts};
-ghost use Rattle.chain.specs.Swaps.{Swapped};
 ghost use Rattle.chain.specs.Begins.{Begins, fitting};
-ghost use Rattle.chain.specs.Told.{screens, screens_sound, Stored, Untouched};
+ghost use Rattle.chain.specs.Told.{screens};
 ghost use Rattle.chain.specs.declared.layout.Layout.TheVariants.{Rows};
-ghost use Rattle.chains.specs.Digits.{digit, spelled};
-ghost use Rattle.chains.specs.Picked.{Picked, Advanced};
+ghost use Rattle.chains.specs.Digits.{spelled};
 
 use crate::picks::Picks;
-use chain::{Buffers, Chain, Layout};
+use crate::turning::Turning;
+use chain::{Buffers, Layout, Shape};
 use pixel::Pixel;
 
 // A chain of 2 to 4 buffers that are picked, and perhaps forgotten, by the digits of a number.
-#[derive(Drop)]
-pub struct Picking<'a, P> {
-    buffers: Buffers<'a, P>,
-    picks: Picks,
-}
+pub type Picking<'a, P> = Turning<'a, P, Picks>;
 
-impl<'a, P: Pixel> Picking<'a, P> {
+impl<'a, P: Pixel> Turning<'a, P, Picks> {
     // 2 to 4 buffers in a memory of exactly their length, else a chain with both sides 0; and the number whose sixteen
     // digits pick.
     pub fn new(mem: &'a mut [P], width: u32, height: u32, count: u32, picks: u64) -> Picking<'a, P>
         ensures begins { Begins Rows mem.old (fitting 2 width height count (length mem.old)) width height count (screens result.buffers) }
-        ensures picks { (result.picks.number ≡ picks) × (result.picks.at ≡ 0) }
+        ensures picks { (result.rule.number ≡ picks) × (result.rule.at ≡ 0) }
         ensures spelled { spelled picks 16 ≡ picks }
         ensures kept { result.buffers.mem.now ≡ mem.old }
         ensures lends { result.buffers.mem.ghost_name ≡ mem.entry.ghost_name }
     {
-        let buffers = Buffers::new(mem, Layout::Rows, 2, width, height, count);
-        let picks = Picks::new(picks);
-        Picking { buffers, picks }
-    }
-}
-
-impl<'a, P: Pixel> Chain<P> for Picking<'a, P> {
-    ghost tells = { λ s. screens s.buffers };
-
-    ghost sound = { λ s. screens_sound s.buffers };
-
-    fn width(&mut self) -> u32
-        ensures gives { result ≡ (screens self.old.buffers).width }
-        ensures same { screens self.new.buffers ≡ screens self.old.buffers }
-        ensures digits { self.new.picks ≡ self.old.picks }
-        ensures untouched { Untouched self.old.buffers self.new.buffers }
-    {
-        self.buffers.width()
-    }
-
-    fn height(&mut self) -> u32
-        ensures gives { result ≡ (screens self.old.buffers).height }
-        ensures same { screens self.new.buffers ≡ screens self.old.buffers }
-        ensures digits { self.new.picks ≡ self.old.picks }
-        ensures untouched { Untouched self.old.buffers self.new.buffers }
-    {
-        self.buffers.height()
-    }
-
-    fn age(&mut self) -> u8
-        ensures gives { result ≡ back_age (screens self.old.buffers) }
-        ensures same { screens self.new.buffers ≡ screens self.old.buffers }
-        ensures digits { self.new.picks ≡ self.old.picks }
-        ensures untouched { Untouched self.old.buffers self.new.buffers }
-    {
-        self.buffers.age()
-    }
-
-    fn back_pixel(&mut self, x: u32, y: u32) -> Option<P>
-        ensures gives { result ≡ back_pixel (screens self.old.buffers) x y }
-        ensures same { screens self.new.buffers ≡ screens self.old.buffers }
-        ensures digits { self.new.picks ≡ self.old.picks }
-        ensures untouched { Untouched self.old.buffers self.new.buffers }
-    {
-        self.buffers.back_pixel(x, y)
-    }
-
-    fn front_pixel(&mut self, x: u32, y: u32) -> Option<P>
-        ensures gives { result ≡ front_pixel (screens self.old.buffers) x y }
-        ensures same { screens self.new.buffers ≡ screens self.old.buffers }
-        ensures digits { self.new.picks ≡ self.old.picks }
-        ensures untouched { Untouched self.old.buffers self.new.buffers }
-    {
-        self.buffers.front_pixel(x, y)
-    }
-
-    fn write(&mut self, x: u32, y: u32, p: P) -> bool
-        ensures puts { Puts (screens self.old.buffers) x y p result (screens self.new.buffers) }
-        ensures digits { self.new.picks ≡ self.old.picks }
-        ensures stored { Stored self.old.buffers x y p result self.new.buffers }
-    {
-        self.buffers.write(x, y, p)
-    }
-
-    // Picks the buffer that the next digit says, and forgets it if the digit says that too.
-    fn swap(&mut self)
-        ensures swaps { Swapped (screens self.old.buffers) (screens self.new.buffers) }
-        ensures turns { Picked (screens self.old.buffers) (digit self.old.picks.number self.old.picks.at) (screens self.new.buffers) }
-        ensures advances { Advanced self.old.picks self.new.picks }
-        ensures untouched { Untouched self.old.buffers self.new.buffers }
-    {
-        let digit = self.picks.take();
-        self.buffers.turn(digit % 4, digit >= 8);
+        let shape = Shape {
+            layout: Layout::Rows,
+            width,
+            height,
+            count,
+        };
+        Turning {
+            buffers: Buffers::new(mem, shape, 2),
+            rule: Picks::new(picks),
+        }
     }
 }

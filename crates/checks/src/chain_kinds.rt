@@ -1,12 +1,12 @@
 use chain::Chain;
-use chains::{Picking, Rotating, Single, meet_picking, meet_rotating, meet_single};
+use chains::{Picking, Rotating, Single, meet_ages};
 use std::process::Abort;
 
 #[test]
 fn single_meets_its_own_frame(rt: HostRuntime) {
     let mut mem = [0u8];
     let mut ages = [9u8; 4];
-    meet_single(&mut Single::new(&mut mem, 1, 1), &mut ages);
+    meet_ages(&mut Single::new(&mut mem, 1, 1), &mut ages);
     assert_eq!(rt; ages, [0, 1, 1, 1]);
 }
 
@@ -14,7 +14,7 @@ fn single_meets_its_own_frame(rt: HostRuntime) {
 fn rotating_settles_at_its_count(rt: HostRuntime) {
     let mut mem = [0u8; 3];
     let mut ages = [9u8; 5];
-    meet_rotating(&mut Rotating::new(&mut mem, 1, 1, 3), &mut ages);
+    meet_ages(&mut Rotating::new(&mut mem, 1, 1, 3), &mut ages);
     assert_eq!(rt; ages, [0, 0, 0, 3, 3]);
 }
 
@@ -22,7 +22,7 @@ fn rotating_settles_at_its_count(rt: HostRuntime) {
 fn picking_goes_by_digits(rt: HostRuntime) {
     let mut mem = [0u8; 2];
     let mut ages = [9u8; 4];
-    meet_picking(&mut Picking::new(&mut mem, 1, 1, 2, 9), &mut ages);
+    meet_ages(&mut Picking::new(&mut mem, 1, 1, 2, 9), &mut ages);
     assert_eq!(rt; ages, [0, 0, 2, 1]);
 }
 

@@ -1,8 +1,12 @@
 #![tactic(auto)]
 
-// The worked examples, run on the real code, and frames compared with a full repainting.
+// The worked examples of every layer, its refusals and its texts, run on the compiled code, and frames compared with a full
+// repainting.
+
 #[cfg(test)]
 mod chain_kinds;
+#[cfg(test)]
+mod making;
 #[cfg(test)]
 mod panels;
 #[cfg(test)]

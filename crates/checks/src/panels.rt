@@ -1,10 +1,11 @@
+use crate::making::opened;
 use chain::Chain;
 use chains::{Picking, Rotating, Single};
-use figure::Figure;
+use figure::{Figure, show_number};
 use panel::Panel;
 use pixel::Pixel;
 use reference::Pane;
-use sheet::Sheet;
+use sheet::{Sheet, turn_to};
 use std::process::Abort;
 use std::test::Fail;
 use surface::{Order, Pair, Shelf};
@@ -29,8 +30,8 @@ fn repainted<S: Shelf<u8>>(shelf: &S, stack: &[Pane], x: i32, y: i32) -> u8 {
     for pane in stack {
         let right = x.wrapping_sub(pane.x);
         let down = y.wrapping_sub(pane.y);
-        if right >= 0 && down >= 0 {
-            if let Some(above) = shelf.pixel(pane.surface, right as u32, down as u32) {
+        if let (Ok(right), Ok(down)) = (u32::try_from(right), u32::try_from(down)) {
+            if let Some(above) = shelf.pixel(pane.surface, right, down) {
                 pixel = above.over(pixel);
             }
         }
@@ -38,7 +39,8 @@ fn repainted<S: Shelf<u8>>(shelf: &S, stack: &[Pane], x: i32, y: i32) -> u8 {
     pixel
 }
 
-// Shows a frame: it is the full repainting of the stack, over a second shelf that was told the same.
+// Shows a frame: it is the full repainting of the stack, over a second shelf, the twin, that was told the same. Panel and
+// twin go side by side: a struct of the two would be made for this test alone and say no more.
 fn shows<S: Shelf<u8>, T: Shelf<u8>, C: Chain<u8>>(
     rt: &impl Abort,
     panel: &mut Panel<u8, S, C>,
@@ -63,86 +65,53 @@ fn tells<S: Shelf<u8>, T: Shelf<u8>, C: Chain<u8>>(
     twin: &mut T,
     surface: u8,
     order: Order,
-) -> Result<(), Fail> {
+) {
     let told = panel.tell(i32::from(surface), order);
-    match twin.order(u32::from(surface), order) {
-        Ok(_) => {
-            assert!(rt; told.is_ok());
-            Ok(())
-        },
-        Err(_) => {
-            assert!(rt; told.is_err());
-            Ok(())
-        },
-    }
+    let twin_told = twin.order(u32::from(surface), order);
+    assert_eq!(rt; told.ok(), twin_told.ok());
 }
 
 fn arrange<S: Shelf<u8>, T: Shelf<u8>, C: Chain<u8>>(
     rt: &impl Abort,
     panel: &mut Panel<u8, S, C>,
     twin: &mut T,
-) -> Result<(), Fail> {
+) {
     assert_eq!(rt; panel.front(0, 0), None);
-    assert!(rt; panel.place(0, 14, 4).is_ok());
-    assert!(rt; panel.place(1, 2, 1).is_ok());
+    assert_eq!(rt; panel.place(0, 14, 4), Ok(()));
+    assert_eq!(rt; panel.place(1, 2, 1), Ok(()));
     shows(rt, panel, twin, &[pane(0, 14, 4), pane(1, 2, 1)]);
-    tells(
-        rt,
-        panel,
-        twin,
-        1,
-        Order {
-            act: 3,
-            a: -42,
-            b: 0,
-        },
-    )?;
+    tells(rt, panel, twin, 1, show_number(-42));
     shows(rt, panel, twin, &[pane(0, 14, 4), pane(1, 2, 1)]);
-    assert!(rt; panel.move_to(1, -3, 5).is_ok());
+    assert_eq!(rt; panel.move_to(1, -3, 5), Ok(()));
     shows(rt, panel, twin, &[pane(0, 14, 4), pane(1, -3, 5)]);
-    assert!(rt; panel.move_to(1, 6, 2).is_ok());
+    assert_eq!(rt; panel.move_to(1, 6, 2), Ok(()));
     shows(rt, panel, twin, &[pane(0, 14, 4), pane(1, 6, 2)]);
-    Ok(())
 }
 
 fn rearrange<S: Shelf<u8>, T: Shelf<u8>, C: Chain<u8>>(
     rt: &impl Abort,
     panel: &mut Panel<u8, S, C>,
     twin: &mut T,
-) -> Result<(), Fail> {
-    assert!(rt; panel.lift(0, 1).is_ok());
+) {
+    assert_eq!(rt; panel.lift(0, 1), Ok(()));
     shows(rt, panel, twin, &[pane(1, 6, 2), pane(0, 14, 4)]);
-    tells(rt, panel, twin, 0, Order { act: 1, a: 1, b: 0 })?;
+    tells(rt, panel, twin, 0, turn_to(1));
     shows(rt, panel, twin, &[pane(1, 6, 2), pane(0, 14, 4)]);
-    assert!(rt; panel.remove(1).is_ok());
-    tells(
-        rt,
-        panel,
-        twin,
-        1,
-        Order {
-            act: 3,
-            a: 777,
-            b: 0,
-        },
-    )?;
+    assert_eq!(rt; panel.remove(1), Ok(()));
+    tells(rt, panel, twin, 1, show_number(777));
     shows(rt, panel, twin, &[pane(0, 14, 4)]);
     shows(rt, panel, twin, &[pane(0, 14, 4)]);
-    assert!(rt; panel.place(1, 10, 3).is_ok());
+    assert_eq!(rt; panel.place(1, 10, 3), Ok(()));
     shows(rt, panel, twin, &[pane(0, 14, 4), pane(1, 10, 3)]);
-    Ok(())
 }
 
 // A session on any chain of 24 by 8.
 fn session<C: Chain<u8> + Drop>(rt: &impl Abort, chain: C) -> Result<(), Fail> {
     let mut twin = shelf();
-    match Panel::open(shelf(), chain, 1) {
-        Ok(mut panel) => {
-            arrange(rt, &mut panel, &mut twin)?;
-            rearrange(rt, &mut panel, &mut twin)
-        }
-        Err(_) => Err(Fail::new("not opened")),
-    }
+    let mut panel = opened(shelf(), chain)?;
+    arrange(rt, &mut panel, &mut twin);
+    rearrange(rt, &mut panel, &mut twin);
+    Ok(())
 }
 
 #[test]
@@ -168,29 +137,23 @@ fn frames_on_picking_chains(rt: HostRuntime) -> Result<(), Fail> {
 }
 
 // On one buffer a show repaints what is damaged: nothing, then the cells that changed, then the pane's two boxes.
-fn counts<S: Shelf<u8>, C: Chain<u8>>(
-    rt: &impl Abort,
-    panel: &mut Panel<u8, S, C>,
-) -> Result<(), Fail> {
-    assert!(rt; panel.place(1, 2, 1).is_ok());
+fn counts<S: Shelf<u8>, C: Chain<u8>>(rt: &impl Abort, panel: &mut Panel<u8, S, C>) {
+    assert_eq!(rt; panel.place(1, 2, 1), Ok(()));
     let first = panel.show();
     assert_eq!(rt; (first.age, first.touched, first.laid), (0, 192, 75));
     let idle = panel.show();
     assert_eq!(rt; (idle.age, idle.touched, idle.laid), (1, 0, 0));
-    assert!(rt; panel.tell(1, Order { act: 3, a: 5, b: 0 }).is_ok());
+    assert!(rt; panel.tell(1, show_number(5)).is_ok());
     let digit = panel.show();
     assert_eq!(rt; (digit.age, digit.touched, digit.laid), (1, 15, 15));
-    assert!(rt; panel.move_to(1, 3, 1).is_ok());
+    assert_eq!(rt; panel.move_to(1, 3, 1), Ok(()));
     let moved = panel.show();
     assert_eq!(rt; (moved.age, moved.touched, moved.laid), (1, 80, 75));
-    Ok(())
 }
 
 fn count_on<C: Chain<u8> + Drop>(rt: &impl Abort, chain: C) -> Result<(), Fail> {
-    match Panel::open(shelf(), chain, 1) {
-        Ok(mut panel) => counts(rt, &mut panel),
-        Err(_) => Err(Fail::new("not opened")),
-    }
+    counts(rt, &mut opened(shelf(), chain)?);
+    Ok(())
 }
 
 #[test]

@@ -1,11 +1,12 @@
+use crate::making::opened;
 use chain::Chain;
 use chains::Single;
-use figure::Figure;
+use figure::{Figure, show_number};
 use panel::Panel;
 use reference::{Layer, Refusal};
 use std::process::Abort;
 use std::test::Fail;
-use surface::{Order, Pair, Shelf};
+use surface::{Pair, Shelf};
 
 type Figures = Pair<Figure<u8>, Figure<u8>>;
 
@@ -46,10 +47,6 @@ where
     }
 }
 
-fn set(a: i32) -> Order {
-    Order { act: 3, a, b: 0 }
-}
-
 // Surface 0 is on the stack, surface 1 is not.
 fn refusals_of_place<S: Shelf<u8>, C: Chain<u8>>(
     rt: &impl Abort,
@@ -85,38 +82,31 @@ fn refusals_of_others<S: Shelf<u8>, C: Chain<u8>>(
     refuses(rt, panel, r, 9, 0)?;
     let r = panel.lift(0, -1);
     refuses(rt, panel, r, 9, 0)?;
-    let r = panel.tell(0, set(10000));
+    let r = panel.tell(0, show_number(10000));
     refuses(rt, panel, r, 10, 0)?;
-    let r = panel.tell(2, set(1));
+    let r = panel.tell(2, show_number(1));
     refuses(rt, panel, r, 4, 2)
 }
 
 // The stack is as it was, and the outermost places are taken.
-fn goes_on<S: Shelf<u8>, C: Chain<u8>>(
-    rt: &impl Abort,
-    panel: &mut Panel<u8, S, C>,
-) -> Result<(), Fail> {
+fn goes_on<S: Shelf<u8>, C: Chain<u8>>(rt: &impl Abort, panel: &mut Panel<u8, S, C>) {
     assert_eq!(rt; panel.front(12, 0), Some(7));
-    assert!(rt; panel.move_to(0, 2047, -2048).is_ok());
+    assert_eq!(rt; panel.move_to(0, 2047, -2048), Ok(()));
     assert_eq!(rt; panel.show().touched, 75);
     assert_eq!(rt; panel.front(12, 0), Some(1));
-    assert!(rt; panel.place(1, -2048, 2047).is_ok());
-    assert!(rt; panel.lift(1, 0).is_ok());
+    assert_eq!(rt; panel.place(1, -2048, 2047), Ok(()));
+    assert_eq!(rt; panel.lift(1, 0), Ok(()));
     assert_eq!(rt; panel.show().touched, 0);
-    Ok(())
 }
 
 fn refusals_on<C: Chain<u8> + Drop>(rt: &impl Abort, chain: C) -> Result<(), Fail> {
-    match Panel::open(shelf(), chain, 1) {
-        Ok(mut panel) => {
-            assert!(rt; panel.place(0, 0, 0).is_ok());
-            assert_eq!(rt; panel.show().laid, 75);
-            refusals_of_place(rt, &mut panel)?;
-            refusals_of_others(rt, &mut panel)?;
-            goes_on(rt, &mut panel)
-        }
-        Err(_) => Err(Fail::new("not opened")),
-    }
+    let mut panel = opened(shelf(), chain)?;
+    assert_eq!(rt; panel.place(0, 0, 0), Ok(()));
+    assert_eq!(rt; panel.show().laid, 75);
+    refusals_of_place(rt, &mut panel)?;
+    refusals_of_others(rt, &mut panel)?;
+    goes_on(rt, &mut panel);
+    Ok(())
 }
 
 #[test]
@@ -173,13 +163,13 @@ fn fill<S: Shelf<u8>, C: Chain<u8>>(
     panel: &mut Panel<u8, S, C>,
 ) -> Result<(), Fail> {
     for k in 0..16 {
-        assert!(rt; panel.place(k, 0, 0).is_ok());
+        assert_eq!(rt; panel.place(k, 0, 0), Ok(()));
     }
     assert_eq!(rt; panel.show().laid, 1200);
     let r = panel.place(16, 9999, 0);
     refuses(rt, panel, r, 7, 16)?;
-    assert!(rt; panel.remove(3).is_ok());
-    assert!(rt; panel.place(16, 0, 0).is_ok());
+    assert_eq!(rt; panel.remove(3), Ok(()));
+    assert_eq!(rt; panel.place(16, 0, 0), Ok(()));
     assert_eq!(rt; panel.show().laid, 1200);
     Ok(())
 }
@@ -193,10 +183,7 @@ fn fill_on<C: Chain<u8> + Drop>(rt: &impl Abort, chain: C) -> Result<(), Fail> {
         first: sixteen,
         second: Figure::new(1, 7u8, 0),
     };
-    match Panel::open(shelf, chain, 1) {
-        Ok(mut panel) => fill(rt, &mut panel),
-        Err(_) => Err(Fail::new("not opened")),
-    }
+    fill(rt, &mut opened(shelf, chain)?)
 }
 
 #[test]

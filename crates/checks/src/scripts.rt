@@ -1,6 +1,7 @@
+use figure::show_number;
 use reference::{Call, Refusal, Shown};
 use replies::{Outcome, Refused, Reply, write_reply, write_row};
-use script::{Record, first_line, read_record};
+use script::{Opening, Record, first_line, read_record};
 use std::alloc::AllocError;
 use std::process::Abort;
 use std::test::Fail;
@@ -59,63 +60,53 @@ fn rows_are_written(rt: HostRuntime) -> Result<(), AllocError> {
 }
 
 // The line is no record, and the field of this number is the first that is at fault.
-fn no_record(rt: &impl Abort, line: &[u8], fault: usize) -> Result<(), Fail> {
-    match read_record(line, 1) {
-        Err(Refused::NotARecord { place }) => {
-            assert_eq!(rt; place, fault);
-            Ok(())
-        }
-        _ => Err(Fail::new("taken for a record")),
-    }
+fn no_record(rt: &impl Abort, line: &[u8], fault: usize) {
+    assert_eq!(rt;
+        read_record(line, 1),
+        Err(Refused::NotARecord { place: fault })
+    );
 }
 
 #[test]
-fn records_are_read(rt: HostRuntime) -> Result<(), Fail> {
-    match read_record(b"tell\t1\t3\t-42\t0", 6) {
-        Ok(Record::Call(Call::Tell { surface, order })) => {
-            assert_eq!(rt; surface, 1);
-            assert_eq!(rt; order.act, 3);
-            assert_eq!(rt; order.a, -42);
-            assert_eq!(rt; order.b, 0);
-        }
-        _ => return Err(Fail::new("not a tell")),
+fn records_are_read(rt: HostRuntime) {
+    let order = show_number(-42);
+    let tell = Call::Tell { surface: 1, order };
+    assert_eq!(rt;
+        read_record(b"tell\t1\t3\t-42\t0", 6),
+        Ok(Record::Call(tell))
+    );
+    no_record(&rt, b"", 0);
+    no_record(&rt, b"hide\t1", 0);
+    no_record(&rt, b"remove", 1);
+    no_record(&rt, b"remove\t+1", 1);
+    no_record(&rt, b"remove\t1\t", 2);
+    no_record(&rt, b"place\t0\t2147483648\t0", 2);
+}
+
+// The fields of an open.
+fn opening(line: &[u8]) -> Result<Opening, Fail> {
+    match read_record(line, 1) {
+        Ok(Record::Open(opening)) => Ok(opening),
+        _ => Err(Fail::new("not an open")),
     }
-    no_record(&rt, b"", 0)?;
-    no_record(&rt, b"hide\t1", 0)?;
-    no_record(&rt, b"remove", 1)?;
-    no_record(&rt, b"remove\t+1", 1)?;
-    no_record(&rt, b"remove\t1\t", 2)?;
-    no_record(&rt, b"place\t0\t2147483648\t0", 2)
 }
 
 // The settings of an open are refused, and the field of this number is the first out of its range.
 fn no_settings(rt: &impl Abort, line: &[u8], fault: usize) -> Result<(), Fail> {
-    let Ok(Record::Open(opening)) = read_record(line, 1) else {
-        return Err(Fail::new("not an open"));
-    };
-    match opening.settings() {
-        Err(Refused::OutOfTurn { place }) => {
-            assert_eq!(rt; place, fault);
-            Ok(())
-        }
-        _ => Err(Fail::new("taken for settings")),
-    }
+    let settings = opening(line)?.settings();
+    assert_eq!(rt; settings, Err(Refused::OutOfTurn { place: fault }));
+    Ok(())
 }
 
 #[test]
 fn an_open_gives_its_settings(rt: HostRuntime) -> Result<(), Fail> {
-    let Ok(Record::Open(opening)) = read_record(b"open\t4\t3\t9\t2", 1) else {
-        return Err(Fail::new("not an open"));
-    };
-    match opening.settings() {
-        Ok(settings) => {
-            assert_eq!(rt; settings.width, 4);
-            assert_eq!(rt; settings.height, 3);
-            assert_eq!(rt; settings.base, 9);
-            assert_eq!(rt; settings.buffers, 2);
-        }
-        Err(_) => return Err(Fail::new("no settings")),
-    }
+    let settings = opening(b"open\t4\t3\t9\t2")?
+        .settings()
+        .map_err(|_| Fail::new("no settings"))?;
+    assert_eq!(rt; settings.width, 4);
+    assert_eq!(rt; settings.height, 3);
+    assert_eq!(rt; settings.base, 9);
+    assert_eq!(rt; settings.buffers, 2);
     no_settings(&rt, b"open\t65\t0\t9\t2", 1)?;
     no_settings(&rt, b"open\t64\t0\t9\t2", 2)?;
     no_settings(&rt, b"open\t64\t64\t256\t2", 3)?;

@@ -3,6 +3,10 @@ use Rattle.std.proofs.Common.{◌≡◌, ℕ, suc, List, [], ◌∷◌, length, 
 use Rattle.chain.specs.Screens.{Screens, back_age}
 use Rattle.chains.specs.Picked.{pickings}
 use Rattle.chains.specs.Met.{Met, meeting}
+use Rattle.chains.specs.Ways.{turnings}
+use Rattle.chains.specs.Kinds.{by_digits}
+use Rattle.chains.specs.declared.picks.Picks.{Picks}
+use Rattle.chains.proofs.Same.{picks}
 
 pub met_is : {P : Type 0} (after : ℕ → Screens P) (ages : List ℕ) → Met after ages → ages ≡ meeting after (length ages)
 met_is after [] m = refl
@@ -17,8 +21,8 @@ met_from after s t ages n l e m =
     met_is (after s) ages m ∙ ap (λ (k : ℕ). meeting (after s) k) l ∙ ap (λ (u : Screens _). meeting (after u) n) e
 
 -- the same of a picking chain, of a number and from a digit that are known
-pub picks_from : {P : Type 0} (number at m j : ℕ) (s t : Screens P) (ages : List ℕ) (n : ℕ) → length ages ≡ n → number ≡ m → at ≡ j → s ≡ t →
-    Met (λ k. pickings number at k s) ages → ages ≡ meeting (λ k. pickings m j k t) n
-picks_from number at m j s t ages n l e f g met =
-    met_from (λ u k. pickings number at k u) s t ages n l g met ∙ ap (λ (v : ℕ). meeting (λ k. pickings v at k t) n) e
+pub picks_from : {P : Type 0} (p : Picks) (m j : ℕ) (s t : Screens P) (ages : List ℕ) (n : ℕ) → length ages ≡ n → p.number ≡ m → p.at ≡ j → s ≡ t →
+    Met (λ k. turnings by_digits k p s) ages → ages ≡ meeting (λ k. pickings m j k t) n
+picks_from p m j s t ages n l e f g met =
+    met_from (λ u k. pickings p.number p.at k u) s t ages n l g (λ i h. met i h ∙ ap back_age (picks p i s)) ∙ ap (λ (v : ℕ). meeting (λ k. pickings v p.at k t) n) e
     ∙ ap (λ (v : ℕ). meeting (λ k. pickings m v k t) n) f

@@ -1,7 +1,7 @@
 use region::{Rect, Region};
 use std::io;
 
-// Prints a box as (left,top,right,bottom).
+// Prints a box as (left,top,right,bottom); what the tour prints is its own, so no type of the library has it as Display.
 pub(crate) fn print_box(rt: &HostRuntime, b: Rect) -> io::Result<()> {
     let Rect {
         left,

@@ -1,11 +1,17 @@
-use crate::frames::{Ink, print_outcome, print_told, show_frame};
+use crate::frames::{Ink, View, print_outcome, print_told, show_frame};
 use chain::Chain;
 use chains::Rotating;
-use figure::Figure;
+use figure::{Figure, show_number};
 use panel::Panel;
 use sheet::Sheet;
 use std::io;
-use surface::{Order, Pair, Shelf};
+use surface::{Pair, Shelf};
+
+const VIEW: View<'static, u8> = View {
+    width: 24,
+    height: 8,
+    legend: &LEGEND,
+};
 
 const LEGEND: [Ink<u8>; 4] = [
     Ink {
@@ -26,17 +32,6 @@ const LEGEND: [Ink<u8>; 4] = [
     },
 ];
 
-fn frame<S: Shelf<u8>, C: Chain<u8>>(
-    rt: &HostRuntime,
-    oven: &mut Panel<u8, S, C>,
-) -> io::Result<()> {
-    show_frame(rt, oven, &LEGEND, 24, 8)
-}
-
-fn set(a: i32) -> Order {
-    Order { act: 3, a, b: 0 }
-}
-
 // Places both surfaces, moves the figure and lifts the lamp.
 fn arrange<S: Shelf<u8>, C: Chain<u8>>(
     rt: &HostRuntime,
@@ -44,13 +39,17 @@ fn arrange<S: Shelf<u8>, C: Chain<u8>>(
 ) -> io::Result<()> {
     print_outcome(rt, "place surface 0 at (14, 4)", oven.place(0, 14, 4))?;
     print_outcome(rt, "place surface 1 at (2, 1)", oven.place(1, 2, 1))?;
-    frame(rt, oven)?;
-    print_told(rt, "tell surface 1 to show 185", oven.tell(1, set(185)))?;
-    frame(rt, oven)?;
+    show_frame(rt, oven, VIEW)?;
+    print_told(
+        rt,
+        "tell surface 1 to show 185",
+        oven.tell(1, show_number(185)),
+    )?;
+    show_frame(rt, oven, VIEW)?;
     print_outcome(rt, "move surface 1 to (6, 2)", oven.move_to(1, 6, 2))?;
-    frame(rt, oven)?;
+    show_frame(rt, oven, VIEW)?;
     print_outcome(rt, "lift surface 0 over 1 pane", oven.lift(0, 1))?;
-    frame(rt, oven)
+    show_frame(rt, oven, VIEW)
 }
 
 // Refused calls, which alter nothing, and the rest.
@@ -60,14 +59,19 @@ fn refuse_and_clear<S: Shelf<u8>, C: Chain<u8>>(
 ) -> io::Result<()> {
     print_outcome(rt, "place surface 1 again", oven.place(1, 0, 0))?;
     print_outcome(rt, "move surface 1 to (6, 5000)", oven.move_to(1, 6, 5000))?;
-    print_told(rt, "tell surface 1 to show 12345", oven.tell(1, set(12345)))?;
-    frame(rt, oven)?;
+    print_told(
+        rt,
+        "tell surface 1 to show 12345",
+        oven.tell(1, show_number(12345)),
+    )?;
+    show_frame(rt, oven, VIEW)?;
     print_outcome(rt, "remove surface 0", oven.remove(0))?;
-    frame(rt, oven)?;
-    frame(rt, oven)
+    show_frame(rt, oven, VIEW)?;
+    show_frame(rt, oven, VIEW)
 }
 
-// Opens a panel with base 1 and goes through its calls.
+// Opens a panel with base 1 and goes through its calls. This is no closure: one over a panel on a named chain gets no
+// proof, and a function that is generic over the chain does.
 fn use_panel<S: Shelf<u8> + Drop, C: Chain<u8> + Drop>(
     rt: &HostRuntime,
     shelf: S,

@@ -2,8 +2,9 @@ use crate::boxes::print_box;
 use chain::Chain;
 use panel::Panel;
 use pixel::Pixel;
-use reference::{Layer, Refusal, Shown};
+use reference::{Refusal, Shown};
 use region::Rect;
+use replies::Layer;
 use std::io;
 use surface::Shelf;
 
@@ -14,31 +15,32 @@ pub(crate) struct Ink<P> {
     pub(crate) letter: char,
 }
 
+// How a display is printed: its size, and the letters of its pixels.
+#[derive(Clone, Copy)]
+pub(crate) struct View<'a, P> {
+    pub(crate) width: i32,
+    pub(crate) height: i32,
+    pub(crate) legend: &'a [Ink<P>],
+}
+
 // The letter of a pixel; '?' for one that is not in the legend.
 fn letter<P: Pixel>(legend: &[Ink<P>], pixel: P) -> char {
-    for ink in legend {
-        if pixel.same(ink.pixel) {
-            return ink.letter;
-        }
-    }
-    '?'
+    legend
+        .iter()
+        .find(|ink| pixel.same(ink.pixel))
+        .map_or('?', |ink| ink.letter)
 }
 
 // Prints the frame that is seen, pixel by pixel.
 fn print_front<P: Pixel, S: Shelf<P>, C: Chain<P>>(
     rt: &HostRuntime,
     panel: &mut Panel<P, S, C>,
-    legend: &[Ink<P>],
-    width: i32,
-    height: i32,
+    view: View<'_, P>,
 ) -> io::Result<()> {
-    for y in 0..height {
+    for y in 0..view.height {
         print!(rt; "    ")?;
-        for x in 0..width {
-            let letter = match panel.front(x, y) {
-                Some(p) => letter(legend, p),
-                None => ' ',
-            };
+        for x in 0..view.width {
+            let letter = panel.front(x, y).map_or(' ', |p| letter(view.legend, p));
             print!(rt; "{letter}")?;
         }
         println!(rt)?;
@@ -51,13 +53,11 @@ fn print_front<P: Pixel, S: Shelf<P>, C: Chain<P>>(
 pub(crate) fn show_frame<P: Pixel, S: Shelf<P>, C: Chain<P>>(
     rt: &HostRuntime,
     panel: &mut Panel<P, S, C>,
-    legend: &[Ink<P>],
-    width: i32,
-    height: i32,
+    view: View<'_, P>,
 ) -> io::Result<()> {
     let Shown { age, touched, laid } = panel.show();
     println!(rt; "  show: age {age}, touched {touched}, laid {laid}")?;
-    print_front(rt, panel, legend, width, height)
+    print_front(rt, panel, view)
 }
 
 // Prints what a call came to.
@@ -71,10 +71,7 @@ pub(crate) fn print_outcome(
         Err(refusal) => {
             let number = refusal.number();
             let place = refusal.place();
-            let layer = match refusal.layer() {
-                Layer::Panel => "panel",
-                Layer::Shelf => "shelf",
-            };
+            let layer = Layer::from(refusal.layer());
             println!(rt; "  {call}: refused, number {number}, layer {layer}, place {place}")
         }
     }

@@ -1,6 +1,6 @@
 ghost use Rattle.std.specs.Prelude.{◌≡◌, List, [], ◌∷◌};
 
-use chains::{Picking, Rotating, meet_picking, meet_rotating};
+use chains::{Picking, Rotating, meet_ages};
 
 // The ages that five shows meet on a rotating chain of 3.
 pub(crate) fn rotating() -> [u8; 5]
@@ -9,7 +9,7 @@ pub(crate) fn rotating() -> [u8; 5]
     let mut mem = [0u8; 3];
     let mut ages = [0u8; 5];
     let mut chain = Rotating::new(&mut mem, 1, 1, 3);
-    meet_rotating(&mut chain, &mut ages);
+    meet_ages(&mut chain, &mut ages);
     ages
 }
 
@@ -20,6 +20,6 @@ pub(crate) fn picking() -> [u8; 4]
     let mut mem = [0u8; 2];
     let mut ages = [0u8; 4];
     let mut chain = Picking::new(&mut mem, 1, 1, 2, 9);
-    meet_picking(&mut chain, &mut ages);
+    meet_ages(&mut chain, &mut ages);
     ages
 }

@@ -1,7 +1,7 @@
 use crate::boxes::print_box;
-use figure::Figure;
+use figure::{Figure, show_number};
 use pixel::Pixel;
-use sheet::Sheet;
+use sheet::{Sheet, turn_to};
 use std::io;
 use surface::{Order, Shelf, Size};
 
@@ -45,23 +45,15 @@ fn tell<P: Pixel, S: Shelf<P>>(
     draw(rt, shelf, clear)
 }
 
-fn number(a: i32) -> Order {
-    Order { act: 3, a, b: 0 }
-}
-
-fn page(a: i32) -> Order {
-    Order { act: 1, a, b: 0 }
-}
-
 // A figure of index pixels, from 0 to -42, 9999 and back to 0.
 pub(crate) fn show_figure(rt: &HostRuntime) -> io::Result<()> {
     println!(rt; "A figure at scale 1 in index pixels, its damage in whole cells of 3 by 5")?;
     let mut figure = Figure::new(1, 7u8, 0);
     draw(rt, &figure, 0u8)?;
-    tell(rt, &mut figure, 0u8, number(-42))?;
-    tell(rt, &mut figure, 0u8, number(9999))?;
-    tell(rt, &mut figure, 0u8, number(0))?;
-    tell(rt, &mut figure, 0u8, number(10000))
+    tell(rt, &mut figure, 0u8, show_number(-42))?;
+    tell(rt, &mut figure, 0u8, show_number(9999))?;
+    tell(rt, &mut figure, 0u8, show_number(0))?;
+    tell(rt, &mut figure, 0u8, show_number(10000))
 }
 
 // A sheet of two pages in premultiplied pixels: a lamp that is dark, and lit with a half-clear halo.
@@ -79,6 +71,6 @@ pub(crate) fn show_sheet(rt: &HostRuntime) -> io::Result<()> {
     )?;
     let mut sheet = Sheet::new(&cells, 8, 3, 2);
     draw(rt, &sheet, 0u32)?;
-    tell(rt, &mut sheet, 0u32, page(1))?;
-    tell(rt, &mut sheet, 0u32, page(2))
+    tell(rt, &mut sheet, 0u32, turn_to(1))?;
+    tell(rt, &mut sheet, 0u32, turn_to(2))
 }
