@@ -32,21 +32,21 @@ LINES = [
 ]
 
 
+def paths(commit):
+    """The files under crates/, of a commit or of the working tree."""
+    listed = ['ls-tree', '-r', '--name-only', commit, 'crates'] if commit else ['ls-files', '-co', '--exclude-standard', 'crates']
+    return sorted(git(*listed).split())
+
+
+def git(*words):
+    return subprocess.run(['git', *words], capture_output=True, text=True, check=True).stdout
+
+
 def sources(commit):
     """The files of src/, as (path, text)."""
-    if commit:
-        names = subprocess.run(['git', 'ls-tree', '-r', '--name-only', commit, 'crates'],
-                               capture_output=True, text=True, check=True).stdout.split()
-    else:
-        names = subprocess.run(['git', 'ls-files', '-co', '--exclude-standard', 'crates'],
-                               capture_output=True, text=True, check=True).stdout.split()
-    for name in sorted(names):
+    for name in paths(commit):
         if re.fullmatch(r'crates/\w+/src/\w+\.rt', name):
-            if commit:
-                yield name, subprocess.run(['git', 'show', f'{commit}:{name}'],
-                                           capture_output=True, text=True, check=True).stdout
-            else:
-                yield name, open(name).read()
+            yield name, git('show', f'{commit}:{name}') if commit else open(name).read()
 
 
 def functions(text):
@@ -128,13 +128,7 @@ def twins(files):
 
 def proofs(commit):
     """The files of proofs/, by what they hold."""
-    if commit:
-        names = subprocess.run(['git', 'ls-tree', '-r', '--name-only', commit, 'crates'],
-                               capture_output=True, text=True, check=True).stdout.split()
-    else:
-        names = subprocess.run(['git', 'ls-files', '-co', '--exclude-standard', 'crates'],
-                               capture_output=True, text=True, check=True).stdout.split()
-    for name in sorted(names):
+    for name in paths(commit):
         if '/proofs/' in name and name.endswith('.antt') and not name.endswith('Lib.antt'):
             kind = name.split('/')[-1][:-len('.antt')]
             kind = {'Answers': 'answers', 'Invariants': 'invariants'}.get(kind, 'lemmas')
