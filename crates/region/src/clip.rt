@@ -15,7 +15,8 @@ use region_laws::Rect;
 fn edge(v: i32, max: u32) -> u32
     ensures { result ≡ held v max }
 {
-    u32::try_from(v).unwrap_or(0).min(max)
+    let most = i32::try_from(max).unwrap_or(i32::MAX);
+    u32::try_from(v.clamp(0, most)).unwrap_or(0)
 }
 
 impl Display {

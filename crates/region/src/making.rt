@@ -38,9 +38,10 @@ impl Region {
         requires { all_banded (pile_of p) ≡ true }
         ensures { list_of result ≡ pile_of p }
     {
-        let mut boxes = [Rect::NONE; 32];
-        let count = p.boxes.len();
-        boxes[..count].copy_from_slice(&p.boxes);
-        Region { boxes, count }
+        let boxes = p.boxes;
+        Region {
+            boxes,
+            count: p.count,
+        }
     }
 }

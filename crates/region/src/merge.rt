@@ -1,38 +1,61 @@
-ghost use Rattle.std.specs.Prelude.{◌≡◌, ℕ, ◌+◌, ◌<◌, ◌≤◌, Bool, true, false, ◌||◌, List, [], ◌∷◌, ◌++◌, length, take, MatchOption};
-ghost use Rattle.region_laws.specs.Spans.{spans, extend};
+ghost use Rattle.std.specs.Prelude.{◌≡◌, ℕ, ◌+◌, ◌<◌, ◌≤◌, Bool, true, false, ◌||◌, List, [], ◌∷◌, ◌++◌, length};
+ghost use Rattle.region_laws.specs.Spans.{spans, extend, First};
 ghost use Rattle.region_laws.specs.Runs.{at, Ok};
-ghost use Rattle.region.specs.Making.{strip_of, Taken};
+ghost use Rattle.region.specs.Making.{strip_of};
 
 use crate::strip::Strip;
 use region_laws::Rect;
 
-// The span that starts first of two rows, and what is left of each.
-fn take_first<'a>(xs: &'a [Rect], ys: &'a [Rect]) -> Option<(Rect, &'a [Rect], &'a [Rect])>
-    ensures { MatchOption result ((length xs.now ≡ 0) × (length ys.now ≡ 0)) (λ p. Taken xs.now ys.now p.0 p.1.now p.2.now) }
+// Whether the next span is taken from `xs`.
+fn takes_first(xs: &[Rect], i: usize, ys: &[Rect], j: usize) -> bool
+    requires { (i ≤ length xs.now) × ((j ≤ length ys.now) × (i + j < length xs.now + length ys.now)) }
+    ensures yes { result ≡ true → First xs.now i ys.now j }
+    ensures other { result ≡ false → First ys.now j xs.now i }
 {
-    match (xs.split_first(), ys.split_first()) {
-        (Some((x, rest)), Some((y, _))) if x.left <= y.left => Some((*x, rest, ys)),
-        (_, Some((y, rest))) => Some((*y, xs, rest)),
-        (Some((x, rest)), None) => Some((*x, rest, ys)),
-        (None, None) => None,
+    if j == ys.len() {
+        return true;
     }
+    if i == xs.len() {
+        return false;
+    }
+    xs[i].left <= ys[j].left
 }
 
 impl Strip {
-    // One more span, which starts at or after the start of the last: it lengthens the last where the two touch.
-    #[tactic(auto, using(crate::proofs::Added::lengthened, crate::proofs::Added::behind_last, crate::proofs::Added::behind_none))]
-    pub(crate) fn add(&mut self, left: u32, right: u32)
-        requires { length self.old.spans.items < 64 }
-        ensures row { strip_of self.new ≡ extend (strip_of self.old) left right }
-        ensures few { length self.new.spans.items ≤ length self.old.spans.items + 1 }
+    // A row with no span.
+    pub(crate) fn new() -> Strip
+        ensures { strip_of result ≡ [] }
     {
-        match self.spans.last_mut() {
-            Some(last) if left <= last.right => last.right = last.right.max(right),
-            _ => self.spans.push(Rect {
-                left,
-                right,
-                ..Rect::NONE
-            }),
+        Strip {
+            boxes: [Rect::NONE; 64],
+            count: 0,
+        }
+    }
+
+    // One more span, which starts at or after the start of the last: it lengthens the last where the two touch.
+    pub(crate) fn add(&mut self, left: u32, right: u32)
+        requires { self.old.count < 64 }
+        ensures row { strip_of self.new ≡ extend (strip_of self.old) left right }
+        ensures few { self.new.count ≤ self.old.count + 1 }
+    {
+        let n = self.count;
+        let new = Rect {
+            left,
+            top: 0,
+            right,
+            bottom: 0,
+        };
+        if n == 0 {
+            self.boxes[0] = new;
+            self.count = 1;
+            return;
+        }
+        let last = self.boxes[n - 1];
+        if last.right < left {
+            self.boxes[n] = new;
+            self.count = n + 1;
+        } else if last.right < right {
+            self.boxes[n - 1].right = right;
         }
     }
 
@@ -44,13 +67,17 @@ impl Strip {
         ensures tidy { Ok false 0 (strip_of self.new) }
         ensures set { (x : ℕ) → at false (strip_of self.new) x ≡ (at false (spans xs.now) x || at false (spans ys.now) x) }
     {
-        self.spans.clear();
-        let mut first = xs;
-        let mut second = ys;
-        while let Some((b, more_first, more_second)) = take_first(first, second) {
-            self.add(b.left, b.right);
-            first = more_first;
-            second = more_second;
+        self.count = 0;
+        let mut i = 0;
+        let mut j = 0;
+        while i + j < xs.len() + ys.len() {
+            if takes_first(xs, i, ys, j) {
+                self.add(xs[i].left, xs[i].right);
+                i += 1;
+            } else {
+                self.add(ys[j].left, ys[j].right);
+                j += 1;
+            }
         }
     }
 }

@@ -6,18 +6,24 @@ ghost use Rattle.region.specs.Making.{pile_of, strip_of};
 
 use crate::pile::{Full, Pile};
 use crate::strip::Strip;
-use arrayvec::ArrayVec;
 use region_laws::Rect;
+
+// At most so many boxes make a region.
+const MOST: usize = 32;
 
 // Whether two lists of boxes have the same lefts and rights.
 fn same_spans(xs: &[Rect], ys: &[Rect]) -> bool
     ensures { result ≡ same_row (spans xs.now) (spans ys.now) }
 {
-    xs.len() == ys.len()
-        && xs
-            .iter()
-            .zip(ys)
-            .all(|(x, y)| x.left == y.left && x.right == y.right)
+    if xs.len() != ys.len() {
+        return false;
+    }
+    for i in 0..xs.len() {
+        if xs[i].left != ys[i].left || xs[i].right != ys[i].right {
+            return false;
+        }
+    }
+    true
 }
 
 // Gives each box another bottom.
@@ -29,35 +35,33 @@ fn lower(bs: &mut [Rect], bottom: u32)
     }
 }
 
-// A row's top and bottom come beside it: one strip is used for row after row.
 impl Pile {
-    // No band yet. (A struct with ghost fields derives no Default.)
+    // No band yet.
     pub(crate) fn new() -> Pile
         ensures list { pile_of result ≡ [] }
         ensures start { result.start ≡ 0 }
     {
         Pile {
-            boxes: ArrayVec::new(),
+            boxes: [Rect::NONE; 32],
+            count: 0,
             start: 0,
         }
-    }
-
-    // The boxes of the last band.
-    fn last_band(&self) -> &[Rect]
-        ensures { result.now ≡ drop self.now.start (pile_of self.now) }
-    {
-        &self.boxes[self.start..]
     }
 
     // Whether the last band goes on with `row` at `top`.
     pub(crate) fn goes_on(&self, row: &Strip, top: u32) -> bool
         ensures { result ≡ goes_on (pile_of self.now) self.now.start (strip_of row.now) top }
     {
-        let band = self.last_band();
-        match band.first() {
-            Some(b) => b.bottom == top && same_spans(band, &row.spans),
-            None => false,
+        if self.start == self.count {
+            return false;
         }
+        if self.boxes[self.start].bottom != top {
+            return false;
+        }
+        same_spans(
+            &self.boxes[self.start..self.count],
+            &row.boxes[0..row.count],
+        )
     }
 
     // Lengthens the last band.
@@ -65,36 +69,55 @@ impl Pile {
         ensures list { pile_of self.new ≡ take self.old.start (pile_of self.old) ++ lowered bottom (drop self.old.start (pile_of self.old)) }
         ensures start { self.new.start ≡ self.old.start }
     {
-        lower(&mut self.boxes[self.start..], bottom);
+        let from = self.start;
+        let to = self.count;
+        lower(&mut self.boxes[from..to], bottom);
+    }
+
+    // Puts one box behind the others; those stand as they were.
+    pub(crate) fn push(&mut self, b: Rect)
+        requires { self.old.count < 32 }
+        ensures list { pile_of self.new ≡ pile_of self.old ++ b ∷ [] }
+        ensures more { self.new.count ≡ self.old.count + 1 }
+    {
+        let n = self.count;
+        self.boxes[n] = b;
+        self.count = n + 1;
     }
 
     // Puts a new band under the others; those stand as they were.
     pub(crate) fn write_band(&mut self, row: &Strip, top: u32, bottom: u32)
-        requires { length self.old.boxes.items + length row.now.spans.items ≤ 32 }
+        requires { self.old.count + row.now.count ≤ 32 }
         ensures list { pile_of self.new ≡ pile_of self.old ++ row_boxes top bottom (strip_of row.now) }
-        ensures start { self.new.start ≡ length self.old.boxes.items }
+        ensures start { self.new.start ≡ self.old.count }
     {
-        self.start = self.boxes.len();
-        for b in row.spans.iter() {
-            self.boxes.push(Rect { top, bottom, ..*b });
+        let from = self.count;
+        for k in 0..row.count {
+            let b = row.boxes[k];
+            self.push(Rect {
+                left: b.left,
+                top,
+                right: b.right,
+                bottom,
+            });
         }
+        self.start = from;
     }
 
     // One more row, from `top` down to `bottom`. Where it does not fit, all stands as it was.
-    #[tactic(auto, using(crate::proofs::Stacks::too_many, crate::proofs::Stacks::begins))]
     pub(crate) fn append(&mut self, row: &Strip, top: u32, bottom: u32) -> Result<(), Full>
         ensures fits { is_ok result ≡ nat_le (length (stacked (pile_of self.old) self.old.start (strip_of row.now) top bottom)) 32 }
         ensures list { pile_of self.new ≡ (if is_ok result then stacked (pile_of self.old) self.old.start (strip_of row.now) top bottom else pile_of self.old) }
         ensures start { self.new.start ≡ (if is_ok result then start_of_last (pile_of self.old) self.old.start (strip_of row.now) top else self.old.start) }
     {
-        if row.spans.is_empty() {
+        if row.count == 0 {
             return Ok(());
         }
         if self.goes_on(row, top) {
             self.lengthen(bottom);
             return Ok(());
         }
-        if self.boxes.remaining_capacity() < row.spans.len() {
+        if self.count + row.count > MOST {
             return Err(Full);
         }
         self.write_band(row, top, bottom);

@@ -1,6 +1,6 @@
 -- Sums of a weight over a region's boxes are sums over its pixels.
-use Rattle.std.proofs.Common.{◌≡◌, ℕ, zero, suc, ◌+◌, ◌-◌, ◌*◌, ◌<◌, ◌≤◌, min, max, Bool, true, false, cond, ◌&&◌, ◌||◌, ltb, leb, ◌⊎◌, List, [], ◌∷◌, ◌++◌, length, get_or, drop, sym, refl, ap, ◌∙◌, inl, inr, suc-mul, mul_comm, zero-add, zero-mul, mul-one, arith}
-use Rattle.std.proofs.lemmas.List.{at_drop_more}
+use Rattle.std.proofs.Common.{◌≡◌, ℕ, zero, suc, ◌+◌, ◌-◌, ◌*◌, ◌<◌, ◌≤◌, min, max, Bool, true, false, cond, ◌&&◌, ◌||◌, ltb, leb, ◌⊎◌, List, [], ◌∷◌, ◌++◌, length, get_or, take, drop, sym, refl, ap, ◌∙◌, inl, inr, suc-mul, mul_comm, zero-add, zero-mul, mul-one, arith}
+use Rattle.std.proofs.lemmas.List.{at_drop_more, take_more}
 use Rattle.std.proofs.lemmas.Bool.Decides.{nat_tests}
 use Rattle.std.proofs.lemmas.Bool.{cases_lt, and_parts, cond_both, cond-true, false≢true}
 use Rattle.region_laws.specs.Boxes.{no_box, inside}
@@ -222,3 +222,16 @@ stays_in bs k w h f = stays bs w h (banded_all bs k) f
 -- a sum over the boxes, box by box: what is left of it
 pub area_left : (bs : List Rect) (i : ℕ) → i < length bs → area (drop i bs) ≡ ((get_or bs i no_box).right - (get_or bs i no_box).left) * ((get_or bs i no_box).bottom - (get_or bs i no_box).top) + area (drop (i + 1) bs)
 area_left bs i h = at_drop_more area bs i no_box h
+
+-- a box more, as a loop over the boxes has it
+pub list_more : (f : ℕ → ℕ → ℕ) (bs : List Rect) (i : ℕ) → i < length bs → list_sum f (take (i + 1) bs) ≡ list_sum f (take i bs) + box_sum f (get_or bs i no_box)
+list_more f bs i h =
+    let e = ap (list_sum f) (take_more bs i no_box h) in
+    let a = list_append f (take i bs) (get_or bs i no_box ∷ []) in
+    omega arith
+
+-- each box of a list that lies in a display lies in it
+pub box_in : (bs : List Rect) (w h i : ℕ) → FitsIn w h bs → i < length bs → ((get_or bs i no_box).right ≤ w) × ((get_or bs i no_box).bottom ≤ h)
+box_in [] w h i f l = absurd (omega arith)
+box_in (b ∷ bs) w h zero f l = let p = f.0 in let q = f.1 in (omega arith, omega arith)
+box_in (b ∷ bs) w h (suc i) f l = let p = f.0 in let q = f.1 in box_in bs w h i (omega arith, omega arith) (omega arith)

@@ -1,8 +1,8 @@
 -- One more span behind the others of a row, and what it does to the row that a list of boxes holds.
-use Rattle.std.proofs.Common.{◌≡◌, ℕ, zero, suc, ◌+◌, ◌<◌, ◌≤◌, max, Bool, true, false, cond, ◌&&◌, ◌||◌, ltb, leb, ◌≢◌, List, [], ◌∷◌, ◌++◌, length, get_or, set, sym, refl, ap, ◌∙◌, subst, arith}
+use Rattle.std.proofs.Common.{◌≡◌, ℕ, ◌+◌, ◌-◌, ◌<◌, ◌≤◌, max, Bool, true, false, cond, ◌&&◌, ◌||◌, ltb, leb, ◌≢◌, ◌⊎◌, List, [], ◌∷◌, ◌++◌, length, get_or, take, set, sym, refl, ap, ◌∙◌, subst, inl, inr, append_assoc, arith}
 use Rattle.std.proofs.lemmas.Bool.Decides.{nat_tests}
 use Rattle.std.proofs.lemmas.Bool.{cond-true, cond-false, lt-ltb, le-ltb, cond_both, ltb-true, ltb-false, true≢false}
-use Rattle.region_laws.specs.Boxes.{no_box}
+use Rattle.std.proofs.lemmas.List.{take_more, take_more_set}
 use Rattle.region_laws.specs.Runs.{Run, run, at, Ok, Apart}
 use Rattle.region_laws.specs.Bands.{Row}
 use Rattle.region_laws.specs.Spans.{spans, extend}
@@ -12,26 +12,52 @@ pub spans-append : (xs ys : List Rect) → spans (xs ++ ys) ≡ spans xs ++ span
 spans-append [] ys = refl
 spans-append (x ∷ xs) ys = ap (λ v. run x.left x.right true ∷ v) (spans-append xs ys)
 
+pub extend_snoc : (rs : Row) (s : Run Bool) (l r : ℕ) → extend (rs ++ s ∷ []) l r ≡ rs ++ extend (s ∷ []) l r
+extend_snoc [] s l r = refl
+extend_snoc (p ∷ []) s l r = refl
+extend_snoc (p ∷ q ∷ rs) s l r = ap (λ v. p ∷ v) (extend_snoc (q ∷ rs) s l r)
+
 abbrev pub span_of : Rect → Run Bool
 span_of b = run b.left b.right true
 
--- a span that starts past the last one stands behind it
-pub add_behind : (bs : List Rect) (b : Rect) → ((i : ℕ) → length bs ≡ i + 1 → (get_or bs i no_box).right < b.left) → spans (bs ++ b ∷ []) ≡ extend (spans bs) b.left b.right
-add_behind [] b k = refl
-add_behind (x ∷ []) b k = sym (cond-true _ _ _ (lt-ltb _ _ (k 0 refl)))
-add_behind (x ∷ y ∷ bs) b k = ap (λ v. span_of x ∷ v) (add_behind (y ∷ bs) b (λ i e. k (suc i) (omega arith)))
+pub take_last : (bs : List Rect) (n : ℕ) (d : Rect) → 0 < n → n ≤ length bs → take n bs ≡ take (n - 1) bs ++ get_or bs (n - 1) d ∷ []
+take_last bs n d p q = let e : n - 1 + 1 ≡ n = omega arith in let h : n - 1 < length bs = omega arith in ap (λ k. take k bs) (sym e) ∙ take_more bs (n - 1) d h
 
--- one that starts at the last one's end or before lengthens it
-pub add_longer : (bs : List Rect) (i : ℕ) (b : Rect) (l r m : ℕ) → length bs ≡ i + 1 → b ≡ get_or bs i no_box → l ≤ b.right → m ≡ max b.right r
-    → spans (set bs i record { left = b.left; top = b.top; right = m; bottom = b.bottom }) ≡ extend (spans bs) l r
-add_longer [] i b l r m p e g h = absurd (omega arith)
-add_longer (x ∷ []) zero b l r m p e g h =
-    let q : m ≡ max x.right r = h ∙ ap (λ (c : Rect). max c.right r) e in
-    let k : l ≤ x.right = subst (λ (c : Rect). l ≤ c.right) e g in
-    (λ i. run (e i).left (q i) true ∷ []) ∙ sym (cond-false _ _ _ (le-ltb _ _ k))
-add_longer (x ∷ []) (suc i) b l r m p e g h = absurd (omega arith)
-add_longer (x ∷ y ∷ bs) zero b l r m p e g h = absurd (omega arith)
-add_longer (x ∷ y ∷ bs) (suc i) b l r m p e g h = ap (λ v. span_of x ∷ v) (add_longer (y ∷ bs) i b l r m (omega arith) e g h)
+pub take_last_set : (bs : List Rect) (n : ℕ) (b : Rect) → 0 < n → n ≤ length bs → take n (set bs (n - 1) b) ≡ take (n - 1) bs ++ b ∷ []
+take_last_set bs n b p q = let e : n - 1 + 1 ≡ n = omega arith in let h : n - 1 < length bs = omega arith in ap (λ k. take k (set bs (n - 1) b)) (sym e) ∙ take_more_set bs (n - 1) b h
+
+-- what extend does to the row of a list, by its last box
+pub extend_last : (bs : List Rect) (n : ℕ) (d : Rect) (l r : ℕ) → 0 < n → n ≤ length bs
+    → extend (spans (take n bs)) l r ≡ spans (take (n - 1) bs) ++ extend (span_of (get_or bs (n - 1) d) ∷ []) l r
+extend_last bs n d l r p q =
+    ap (λ v. extend (spans v) l r) (take_last bs n d p q) ∙ (ap (λ v. extend v l r) (spans-append (take (n - 1) bs) (get_or bs (n - 1) d ∷ [])) ∙ extend_snoc (spans (take (n - 1) bs)) (span_of (get_or bs (n - 1) d)) l r)
+
+pub add_behind : (bs : List Rect) (n : ℕ) (d : Rect) (l r t b : ℕ) → n < length bs → ((n ≡ 0) ⊎ ((0 < n) × ((get_or bs (n - 1) d).right < l)))
+    → spans (take (n + 1) (set bs n record { left = l; top = t; right = r; bottom = b })) ≡ extend (spans (take n bs)) l r
+add_behind bs n d l r t b q k = ap spans (take_more_set bs n record { left = l; top = t; right = r; bottom = b } q) ∙ (spans-append (take n bs) (record { left = l; top = t; right = r; bottom = b } ∷ []) ∙ go k)
+  where
+    go : ((n ≡ 0) ⊎ ((0 < n) × ((get_or bs (n - 1) d).right < l))) → spans (take n bs) ++ run l r true ∷ [] ≡ extend (spans (take n bs)) l r
+    go (inl e) = subst (λ (m : ℕ). spans (take m bs) ++ run l r true ∷ [] ≡ extend (spans (take m bs)) l r) (sym e) refl
+    go (inr h) =
+        let front = spans (take (n - 1) bs) in
+        let e : spans (take n bs) ≡ front ++ span_of (get_or bs (n - 1) d) ∷ [] = ap spans (take_last bs n d h.0 (omega arith)) ∙ spans-append (take (n - 1) bs) (get_or bs (n - 1) d ∷ []) in
+        let f : extend (span_of (get_or bs (n - 1) d) ∷ []) l r ≡ span_of (get_or bs (n - 1) d) ∷ run l r true ∷ [] = cond-true _ _ _ (lt-ltb _ _ h.1) in
+        ap (λ v. v ++ run l r true ∷ []) e ∙ (append_assoc front (span_of (get_or bs (n - 1) d) ∷ []) (run l r true ∷ []) ∙ (ap (λ v. front ++ v) (sym f) ∙ sym (extend_last bs n d l r h.0 (omega arith))))
+
+pub add_longer : (bs : List Rect) (n : ℕ) (d : Rect) (l r t b : ℕ) → 0 < n → n ≤ length bs → l ≤ (get_or bs (n - 1) d).right → (get_or bs (n - 1) d).right < r
+    → spans (take n (set bs (n - 1) record { left = (get_or bs (n - 1) d).left; top = t; right = r; bottom = b })) ≡ extend (spans (take n bs)) l r
+add_longer bs n d l r t b p q g h =
+    let new : Rect = record { left = (get_or bs (n - 1) d).left; top = t; right = r; bottom = b } in
+    let f : extend (span_of (get_or bs (n - 1) d) ∷ []) l r ≡ run (get_or bs (n - 1) d).left (max (get_or bs (n - 1) d).right r) true ∷ [] = cond-false _ _ _ (le-ltb _ _ g) in
+    let m : max (get_or bs (n - 1) d).right r ≡ r = omega arith in
+    ap spans (take_last_set bs n new p q) ∙ (spans-append (take (n - 1) bs) (new ∷ []) ∙ (ap (λ v. spans (take (n - 1) bs) ++ run (get_or bs (n - 1) d).left v true ∷ []) (sym m) ∙ (ap (λ v. spans (take (n - 1) bs) ++ v) (sym f) ∙ sym (extend_last bs n d l r p q))))
+
+pub add_held : (bs : List Rect) (n : ℕ) (d : Rect) (l r : ℕ) → 0 < n → n ≤ length bs → l ≤ (get_or bs (n - 1) d).right → r ≤ (get_or bs (n - 1) d).right
+    → spans (take n bs) ≡ extend (spans (take n bs)) l r
+add_held bs n d l r p q g h =
+    let f : extend (span_of (get_or bs (n - 1) d) ∷ []) l r ≡ run (get_or bs (n - 1) d).left (max (get_or bs (n - 1) d).right r) true ∷ [] = cond-false _ _ _ (le-ltb _ _ g) in
+    let m : max (get_or bs (n - 1) d).right r ≡ (get_or bs (n - 1) d).right = omega arith in
+    ap spans (take_last bs n d p q) ∙ (spans-append (take (n - 1) bs) (get_or bs (n - 1) d ∷ []) ∙ (ap (λ v. spans (take (n - 1) bs) ++ run (get_or bs (n - 1) d).left v true ∷ []) (sym m) ∙ (ap (λ v. spans (take (n - 1) bs) ++ v) (sym f) ∙ sym (extend_last bs n d l r p q))))
 
 -- what extend means
 abbrev pub last_from : Row → ℕ
@@ -82,3 +108,7 @@ extend_ok low (s ∷ t ∷ []) l r k p g h =
 extend_ok low (s ∷ t ∷ v ∷ ts) l r k p g h =
     let u = to_le_last low s t (v ∷ ts) k in
     (k.0, k.1, k.2, k.3, extend_ok s.to (t ∷ v ∷ ts) l r k.4 (omega arith) g h)
+
+pub add_first : (bs : List Rect) (n : ℕ) (l r t b : ℕ) → 0 < length bs → n ≡ 0 → spans (take 1 (set bs 0 record { left = l; top = t; right = r; bottom = b })) ≡ extend (spans (take n bs)) l r
+add_first [] n l r t b q e = absurd (omega arith)
+add_first (x ∷ bs) n l r t b q e = subst (λ (m : ℕ). run l r true ∷ [] ≡ extend (spans (take m (x ∷ bs))) l r) (sym e) refl

@@ -124,3 +124,7 @@ both_inside xs ys b k m e f =
     let g : cover (xs ++ ys) ≡ b = from_append no_box xs ys ∙ sym e in
     let s = cover_sound (xs ++ ys) (all_append Sound xs ys (banded_all xs k) (banded_all ys m)) (ap full g ∙ f) in
     subst (λ (c : Rect). (c.right ≤ farthest) × (c.bottom ≤ farthest)) g (s.right, s.bottom)
+
+-- what both parts keep inside a display, a join keeps
+pub joined_in : (xs ys : List Rect) (w h : ℕ) → banded xs ≡ true → banded ys ≡ true → Within (covers xs) (inside (box 0 0 w h)) → Within (covers ys) (inside (box 0 0 w h)) → Within (covers (joined xs ys)) (inside (box 0 0 w h))
+joined_in xs ys w h k m p q = joined_least xs ys k m (box 0 0 w h) p q

@@ -1,15 +1,21 @@
 -- One more run behind the others.
-use Rattle.std.proofs.Common.{◌≡◌, ℕ, zero, suc, ◌<◌, ◌≤◌, Bool, true, false, cond, ◌&&◌, eqb, ltb, leb, ◌≢◌, ◌⊎◌, List, [], ◌∷◌, sym, refl, ap, ◌∙◌, subst, inl, inr, arith}
+use Rattle.std.proofs.Common.{◌≡◌, ℕ, zero, suc, ◌<◌, ◌≤◌, Bool, true, false, cond, ◌&&◌, eqb, ltb, leb, ◌≢◌, ◌⊎◌, List, [], ◌∷◌, length, sym, refl, ap, ◌∙◌, subst, inl, inr, arith}
 use Rattle.std.proofs.lemmas.Bool.Decides.{nat_tests}
 use Rattle.std.proofs.lemmas.Bool.{cases_lt, and_parts, eqb-true, eq-eqb, both_ways, cond_both, cases_Bool, cond-true, cond-false, and_from}
 use Rattle.region_laws.specs.Runs.{Run, run, at, Apart, Ok, reach, push, runs}
-use Rattle.region_laws.proofs.Unique.{unique}
+use Rattle.region_laws.proofs.Unique.{at_right, unique}
 
 module _ {V : Type 0} (none : V) where
   -- a run ends at or before the last one
   pub ok_reach : (low : ℕ) (r : Run V) (rs : List (Run V)) → Ok none low (r ∷ rs) → r.to ≤ reach (r ∷ rs)
   ok_reach low r [] k = omega arith
   ok_reach low r (s ∷ ss) k = let h = ok_reach r.to s ss k.4 in omega arith
+
+  -- past the last run nothing stands
+  pub at_past : (low : ℕ) (rs : List (Run V)) (x : ℕ) → Ok none low rs → reach rs ≤ x → at none rs x ≡ none
+  at_past low [] x k l = refl
+  at_past low (r ∷ []) x k l = at_right none r [] x l
+  at_past low (r ∷ s ∷ ss) x k l = let h = ok_reach low r (s ∷ ss) k in at_right none r (s ∷ ss) x (omega arith) ∙ at_past r.to (s ∷ ss) x k.4 l
 
 module _ {V : Type 0} (same : V → V → Bool) where
   abbrev pub touch : Run V → ℕ → V → Bool
@@ -30,6 +36,11 @@ module _ {V : Type 0} (same : V → V → Bool) where
   push_reach (r ∷ []) a b v = push_last r a b v (λ rs. reach rs ≡ b) (λ _. refl) (λ _. refl)
   push_reach (r ∷ s ∷ []) a b v = push_last s a b v (λ rs. reach (r ∷ rs) ≡ b) (λ _. refl) (λ _. refl)
   push_reach (r ∷ s ∷ t ∷ rs) a b v = push_reach (s ∷ t ∷ rs) a b v
+
+  pub push_length : (rs : List (Run V)) (a b : ℕ) (v : V) → length rs ≤ length (push same rs a b v)
+  push_length [] a b v = omega arith
+  push_length (r ∷ []) a b v = push_last r a b v (λ rs. 1 ≤ length rs) (λ _. omega arith) (λ _. omega arith)
+  push_length (r ∷ s ∷ rs) a b v = let h = push_length (s ∷ rs) a b v in omega arith
 
 module _ {V : Type 0} (same : V → V → Bool) (none : V) (is : (u v : V) → same u v ≡ true → u ≡ v) where
   pub push_at : (low : ℕ) (rs : List (Run V)) (a b : ℕ) (v : V) (x : ℕ) → Ok none low rs → reach rs ≤ a → a < b

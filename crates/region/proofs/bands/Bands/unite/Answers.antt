@@ -40,4 +40,8 @@ loop-y-preserved c =
       swept_at xs ys c.next_edge-edge.result _ (pile_of c.append.new.self) _ c.append.new.self.start t
           (c.append.ensures.list ∙ cond-true (is_ok c.append.result) _ _ e) (c.append.ensures.start ∙ cond-true (is_ok c.append.result) _ _ e),
       (let u = c.next_edge-edge.ensures.within in let v = c.next_edge.ensures.within in omega arith),
+      c.count_above-above.ensures.within,
+      (λ m h. let a = c.count_above-above.ensures.above m h in let p = c.next_edge-edge.ensures.past in omega arith),
+      c.count_above-other_above.ensures.within,
+      (λ m h. let a = c.count_above-other_above.ensures.above m h in let p = c.next_edge-edge.ensures.past in omega arith),
     )
