@@ -19,7 +19,7 @@ age_of a b = slice_index a.by_buffer b
 
 -- the ages of a new chain
 abbrev pub unaged : Ages
-unaged = record { by_buffer = 0 ∷ 0 ∷ 0 ∷ 0 ∷ [] }
+unaged = record { by_buffer = 0 ∷ 0 ∷ 0 ∷ 0 ∷ []; long = refl }
 
 -- does the memory have the length that the buffers need
 abbrev pub exact : {P : Type 0} → Shape → List P → Bool

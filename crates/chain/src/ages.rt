@@ -1,12 +1,12 @@
-ghost use Rattle.std.specs.Prelude.{◌≡◌, ℕ, ◌<◌, if◌then◌else◌, nat_eq};
+ghost use Rattle.std.specs.Prelude.{◌≡◌, ℕ, ◌<◌, length, if◌then◌else◌, nat_eq};
 ghost use Rattle.chain.specs.Ages.{older};
-ghost use Rattle.chain.specs.Told.{age_of, unaged};
 
 // The ages of up to four buffers, by the buffer's number. An age is told as one byte: n for the frame of n shows ago, 255
 // for that and any older, 0 for contents that are unknown. A place past the chain's buffers stays 0.
 #[derive(Clone, Copy)]
 pub struct Ages {
     pub by_buffer: [u8; 4],
+    ghost long: { length by_buffer ≡ 4 },
 }
 
 // An age one show later.
@@ -17,6 +17,8 @@ fn aged(age: u8) -> u8
 }
 
 impl Ages {
+    ghost use Rattle.chain.specs.Told.{age_of, unaged};
+
     // The ages of a new chain.
     pub(crate) fn new() -> Ages
         ensures { result ≡ unaged }
@@ -36,7 +38,9 @@ impl Ages {
         requires { shown < 4 }
         ensures { (b : ℕ) → age_of self.new b ≡ (if nat_eq b shown then 1 else older (age_of self.old b)) }
     {
-        self.by_buffer = self.by_buffer.map(aged);
+        for age in self.by_buffer.iter_mut() {
+            *age = aged(*age);
+        }
         self.by_buffer[shown as usize] = 1;
     }
 

@@ -52,7 +52,7 @@ impl Shape {
     }
 
     // Where a pixel lies in its buffer.
-    #[tactic(auto, unfolding(crate::specs::Places::spot))]
+    #[tactic(auto, using(crate::proofs::ByRows::by_rows))]
     pub(crate) fn spot(&self, x: u32, y: u32) -> usize
         requires small { Small self.now }
         requires within { (x < self.now.width) × (y < self.now.height) }

@@ -58,8 +58,8 @@ rotations_after : {P : Type 0} (j k : ℕ) (s : Screens P) → rotations (k + j)
 rotations_after zero k s = ap (λ (n : ℕ). rotations n s) (add-zero k)
 rotations_after (suc j) k s = ap (λ (n : ℕ). rotations n s) (add-suc k j) ∙ ap rotated (rotations_after j k s)
 
-settles_by : {P : Type 0} (s t : Screens P) (k : ℕ) → s.back < s.count → s.count ≤ 254 → t ≡ rotations k s → Settles s k t
-settles_by s t k lt few e le =
+pub settles : {P : Type 0} (s t : Screens P) (k : ℕ) → s.back < s.count → s.count ≤ 254 → t ≡ rotations k s → Settles s k t
+settles s t k lt few e le =
     let m = k - s.count in
     let c = count_same m s in
     let d : k ≡ m + s.count = omega arith in
@@ -67,8 +67,8 @@ settles_by s t k lt few e le =
     let h = whole_round (rotations m s) s.count (sym c) (omega arith) (omega arith) in
     ap back_age (e ∙ ap (λ (n : ℕ). rotations n s) d ∙ rotations_after s.count m s) ∙ h ∙ c
 
-pub settles : {P : Type 0} (b c : Buffers P) (k : ℕ) → screens c ≡ rotations k (screens b) → Settles (screens b) k (screens c)
-settles b c k e = let few = b.state.few in settles_by (screens b) (screens c) k b.state.known.0 (omega arith) e
+pub settles_buffers : {P : Type 0} (b c : Buffers P) (k : ℕ) → screens c ≡ rotations k (screens b) → Settles (screens b) k (screens c)
+settles_buffers b c k e = let few = b.state.few in settles (screens b) (screens c) k b.state.known.0 (omega arith) e
 
 pub rotate_more : {P : Type 0} (s t v u : Screens P) (i : ℕ) → t ≡ rotations i s → v ≡ t → Rotated v u → u ≡ rotations (i + 1) s
 rotate_more s t v u i e f r = turn_is_function v u _ _ r ∙ ap rotated (f ∙ e) ∙ sym (ap (λ (n : ℕ). rotations n s) (add-one i))

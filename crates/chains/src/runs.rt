@@ -20,7 +20,7 @@ use chain::Chain;
 use pixel::Pixel;
 
 // Swaps a rotating chain again and again. Once it has gone round, each show meets the age that is the number of buffers.
-#[tactic(auto, using(crate::proofs::Settling::rotate_more, crate::proofs::Settling::settles))]
+#[tactic(auto, using(crate::proofs::Settling::rotate_more, crate::proofs::Settling::settles_buffers))]
 pub fn swap_times<P: Pixel>(chain: &mut Rotating<'_, P>, times: u32)
     ensures rotates { screens chain.new.buffers ≡ rotations times (screens chain.old.buffers) }
     ensures settles { Settles (screens chain.old.buffers) times (screens chain.new.buffers) }
