@@ -25,6 +25,7 @@ pub(crate) fn has_ink(v: Reading, column: u32, row: u32) -> bool
 // What changes where another number takes this one's place.
 impl Reading {
     // Whether the character in cell i changes.
+    #[inline(always)]
     fn changes(self, next: Reading, i: u32) -> bool
         ensures { result ≡ unlike self.value next.value i }
     {
@@ -32,6 +33,7 @@ impl Reading {
     }
 
     // The first of these cells whose character changes.
+    #[inline(always)]
     #[tactic(auto, using(crate::proofs::Changes::few))]
     fn first_changed(self, next: Reading, cells: &[u32]) -> Option<u32>
         requires { list_all (λ i. nat_lt i 4) cells.now ≡ true }

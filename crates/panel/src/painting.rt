@@ -31,8 +31,10 @@ impl<P: Pixel, S: Shelf<P>, C: Chain<P>> Panel<P, S, C> {
     fn lay_up(&self, sights: &Sights, from: usize, x: u32, y: u32) -> P
         ensures { result ≡ over_from P.Pixel.lay (S.Shelf.tells P.Pixel.solid self.now.shelf) x y self.now.base (drop from (sights_of sights.now)) }
     {
-        let upper = sights.all.as_slice().iter().skip(from);
-        upper.fold(self.base, |d, sight| self.lay_one(sight, d, x, y))
+        let upper = sights.all.as_slice().get(from..).unwrap_or(&[]);
+        upper
+            .iter()
+            .fold(self.base, |d, sight| self.lay_one(sight, d, x, y))
     }
 
     // The pixel of the whole picture at (x, y), from the first pane whose solid box covers it, and the panes laid.

@@ -1,15 +1,29 @@
 // Pixels as text.
-ghost use Rattle.std.specs.Prelude.{◌≡◌, ◌/◌, ◌%◌, [], ◌∷◌, ◌++◌, is_ok, IfOk, OnOk, if◌then◌else◌, string_bytes};
+ghost use Rattle.std.specs.Prelude.{◌≡◌, ◌/◌, ◌%◌, ◌<◌, [], ◌∷◌, ◌++◌, is_ok, IfOk, OnOk, if◌then◌else◌, string_bytes};
 ghost use Rattle.replies.specs.Replies.{hex_digit, hex_text, row_text};
 
 use std::alloc::{AllocError, Global};
 
-// Writes a pixel at the end of a text: two hexadecimal digits, in lower case.
-#[tactic(auto, using(std::proofs::lemmas::Fmt::hex_byte))]
+// A hexadecimal digit, in lower case.
+fn digit(n: u8) -> char
+    requires { n < 16 }
+    ensures value { result ≡ hex_digit n }
+    ensures ascii { result < 128 }
+{
+    if n < 10 {
+        (b'0' + n) as char
+    } else {
+        (b'a' + (n - 10)) as char
+    }
+}
+
+// Writes a pixel at the end of a text: two hexadecimal digits, in lower case. (By two pushes: a format of each pixel took
+// nearly twice the time.)
 fn write_pixel(text: &mut String, pixel: u8) -> Result<(), AllocError>
     ensures { OnOk result (string_bytes text.new ≡ string_bytes text.old ++ hex_digit (pixel / 16) ∷ hex_digit (pixel % 16) ∷ []) }
 {
-    write!(text, "{pixel:02x}")
+    text.push(digit(pixel / 16))?;
+    text.push(digit(pixel % 16))
 }
 
 // Two hexadecimal digits for each pixel.
