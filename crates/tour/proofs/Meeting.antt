@@ -1,5 +1,5 @@
 -- The ages that shows meet, as a list.
-use Rattle.std.proofs.Common.{◌≡◌, ℕ, suc, List, [], ◌∷◌, length, refl, ap, ◌∙◌, arith}
+use Rattle.std.proofs.Common.{◌≡◌, ℕ, zero, suc, List, [], ◌∷◌, length, refl, ap, ◌∙◌, arith}
 use Rattle.chain.specs.Screens.{Screens, back_age}
 use Rattle.chains.specs.Picked.{pickings}
 use Rattle.chains.specs.Met.{Met, meeting}
@@ -26,3 +26,14 @@ pub picks_from : {P : Type 0} (p : Picks) (m j : ℕ) (s t : Screens P) (ages : 
 picks_from p m j s t ages n l e f g met =
     met_from (λ u k. pickings p.number p.at k u) s t ages n l g (λ i h. met i h ∙ ap back_age (picks p i s)) ∙ ap (λ (v : ℕ). meeting (λ k. pickings v p.at k t) n) e
     ∙ ap (λ (v : ℕ). meeting (λ k. pickings m v k t) n) f
+
+-- chains that tell the same after the same number of swaps meet the same ages
+met_alike : {P : Type 0} (f g : ℕ → Screens P) → ((k : ℕ) → f k ≡ g k) → (n : ℕ) → meeting f n ≡ meeting g n
+met_alike f g e zero = refl
+met_alike f g e (suc n) = ap (λ (s : Screens _). back_age s ∷ meeting (λ k. f (suc k)) n) (e 0) ∙ ap (λ (v : List ℕ). back_age (g 0) ∷ v) (met_alike (λ k. f (suc k)) (λ k. g (suc k)) (λ k. e (suc k)) n)
+
+-- what the rule of digits meets, of a number and from a digit that are known
+pub picked_is : {P : Type 0} (p : Picks) (m j : ℕ) (s : Screens P) (n : ℕ) → p.number ≡ m → p.at ≡ j →
+    meeting (λ k. turnings by_digits k p s) n ≡ meeting (λ k. pickings m j k s) n
+picked_is p m j s n e f =
+    met_alike _ _ (λ k. picks p k s) n ∙ ap (λ (v : ℕ). meeting (λ k. pickings v p.at k s) n) e ∙ ap (λ (v : ℕ). meeting (λ k. pickings m v k s) n) f

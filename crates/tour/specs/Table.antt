@@ -12,7 +12,11 @@ use Rattle.chain.specs.Begins.{begun}
 use Rattle.chain.specs.declared.layout.Layout.TheVariants.{Rows}
 use Rattle.chains.specs.Rotation.{rotations}
 use Rattle.chains.specs.Picked.{pickings}
+use Rattle.chains.specs.Ways.{turnings}
+use Rattle.chains.specs.Kinds.{rotating as in_turn, by_digits}
 use Rattle.chains.specs.Met.{meeting}
+use Rattle.chains.specs.declared.rotating.Rotate.{Rotate}
+use Rattle.chains.specs.declared.picks.Picks.{Picks}
 use Rattle.tour.specs.declared.worked.Answers.{Answers}
 
 -- the answers that the table has to the joins: three bands where two boxes overlap, one box where one lies right under
@@ -56,6 +60,9 @@ pub record Worked : Type 0 where
   -- five shows on a rotating chain of 3, and four on a picking chain of 2 with the number 9, of one pixel
   pub rotating : meeting {P = ℕ} (λ k. rotations k (begun Rows (0 ∷ 0 ∷ 0 ∷ []) true 1 1 3)) 5 ≡ threes
   pub picking : meeting {P = ℕ} (λ k. pickings 9 0 k (begun Rows (0 ∷ 0 ∷ []) true 1 1 2)) 4 ≡ forgotten
+  -- the same, of the rules by which the chains that run turn their buffers
+  pub by_rotating : (r : Rotate) → meeting {P = ℕ} (λ k. turnings in_turn k r (begun Rows (0 ∷ 0 ∷ 0 ∷ []) true 1 1 3)) 5 ≡ threes
+  pub by_picking : (p : Picks) → p.number ≡ 9 → p.at ≡ 0 → meeting {P = ℕ} (λ k. turnings by_digits k p (begun Rows (0 ∷ 0 ∷ []) true 1 1 2)) 4 ≡ forgotten
 
 -- the running code answers so
 pub record Ran (r : Answers) : Type 0 where

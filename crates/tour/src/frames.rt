@@ -2,9 +2,8 @@ use crate::boxes::print_box;
 use chain::Chain;
 use panel::Panel;
 use pixel::Pixel;
-use reference::{Refusal, Shown};
+use reference::{Layer, Refusal, Shown};
 use region::Rect;
-use replies::Layer;
 use std::io;
 use surface::Shelf;
 
@@ -71,7 +70,10 @@ pub(crate) fn print_outcome(
         Err(refusal) => {
             let number = refusal.number();
             let place = refusal.place();
-            let layer = Layer::from(refusal.layer());
+            let layer = match refusal.layer() {
+                Layer::Panel => "panel",
+                Layer::Shelf => "shelf",
+            };
             println!(rt; "  {call}: refused, number {number}, layer {layer}, place {place}")
         }
     }

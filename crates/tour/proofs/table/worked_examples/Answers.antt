@@ -1,8 +1,11 @@
-use Rattle.std.proofs.Common.{List, refl, ap, ◌∙◌}
+use Rattle.std.proofs.Common.{ℕ, true, List, [], ◌∷◌, refl, ap, ◌∙◌}
+use Rattle.chain.specs.Begins.{begun}
+use Rattle.chain.specs.declared.layout.Layout.TheVariants.{Rows}
 use Rattle.region_laws.specs.Counted.{area}
 use Rattle.region_laws.specs.declared.rect.Rect.{Rect}
 use Rattle.region_laws.proofs.Examples.{overlap_is, under_is, crowded_is, lengthened_is}
 use Rattle.tour.specs.Table.{Worked}
+use Rattle.tour.proofs.Meeting.{picked_is}
 use Rattle.tour.proofs.table.worked_examples.Goals as goal
 
 worked_is : Worked
@@ -21,6 +24,8 @@ worked_is =
       lengthened_area = refl;
       rotating = refl;
       picking = refl;
+      by_rotating = λ r. refl;
+      by_picking = λ p n a. picked_is p 9 0 (begun {P = ℕ} Rows (0 ∷ 0 ∷ []) true 1 1 2) 4 n a;
     }
 
 pub returns : goal.returns
