@@ -16,7 +16,7 @@ pub struct Shown {
 }
 
 // What a call of the panel answered, as it is kept in a list: one case for each kind of answer. The calls themselves
-// answer a Result.
+// answer a Result, but for show, which is never refused.
 #[derive(Clone, Copy, PartialEq, Eq, Debug)]
 pub enum Answer {
     Done,

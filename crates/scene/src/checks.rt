@@ -51,7 +51,7 @@ pub fn check_tell(there: bool, taken: bool, surface: i32) -> Result<(), Refusal>
 // gives. `found` is the surface, if the shelf has it and it is not closed; `surface` is its number as it was given, which
 // a refusal names also where nothing was found.
 impl Scene {
-    // Whether a surface is on the stack; a negative number, which a call is refused for before, is looked up as 0.
+    // Whether a surface is on the stack; a negative number, which a panel's `find` refuses before, is looked up as 0.
     fn holds(&self, surface: i32) -> bool
         ensures { result ≡ on_stack (state_of self.now).stack surface }
     {
